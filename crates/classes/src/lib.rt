@@ -1,0 +1,98 @@
+// What a byte is: one class for each byte, and the tests that loops over runs of bytes ask.
+ghost use mathlib.Core.Path.{_≡_};
+ghost use Rattle.classes.specs.Classes.{classOf, blank, lineEnd, symbolFirst, symbolOther, digitOf, literalByte};
+
+pub enum Class {
+    Space,
+    LineEnd,
+    Semicolon,
+    LParen,
+    RParen,
+    AtSign,
+    FormFeed,
+    Minus,
+    Digit,
+    Other,
+}
+
+pub fn class_of(b: u8) -> Class
+    ensures { λ r. ⌜ r ≡ classOf b ⌝ }
+{
+    if (b == 32) | (b == 9) {
+        return Class::Space;
+    }
+    if (b == 10) | (b == 13) {
+        return Class::LineEnd;
+    }
+    if b == 59 {
+        return Class::Semicolon;
+    }
+    if b == 40 {
+        return Class::LParen;
+    }
+    if b == 41 {
+        return Class::RParen;
+    }
+    if b == 64 {
+        return Class::AtSign;
+    }
+    if b == 12 {
+        return Class::FormFeed;
+    }
+    if b == 45 {
+        return Class::Minus;
+    }
+    if (48 <= b) & (b <= 57) {
+        return Class::Digit;
+    }
+    Class::Other
+}
+
+pub fn is_blank(b: u8) -> bool
+    ensures { λ r. ⌜ r ≡ blank (classOf b) ⌝ }
+{
+    (b == 32) | (b == 9) | (b == 10) | (b == 13)
+}
+
+pub fn is_line_end(b: u8) -> bool
+    ensures { λ r. ⌜ r ≡ lineEnd (classOf b) ⌝ }
+{
+    (b == 10) | (b == 13)
+}
+
+pub fn is_sym_first_char(b: u8) -> bool
+    ensures { λ r. ⌜ r ≡ symbolFirst (classOf b) ⌝ }
+{
+    if is_sym_other_char(b) {
+        return !((b == 45) | ((48 <= b) & (b <= 57)));
+    }
+    false
+}
+
+pub fn is_sym_other_char(b: u8) -> bool
+    ensures { λ r. ⌜ r ≡ symbolOther (classOf b) ⌝ }
+{
+    !((b == 40) | (b == 41) | (b == 59) | (b == 64) | (b == 32) | (b == 9) | (b == 10) | (b == 13) | (b == 12))
+}
+
+// The digit's value, or 16.
+pub fn digit_of(b: u8) -> u8
+    ensures { λ r. ⌜ r ≡ digitOf b ⌝ }
+{
+    if (48 <= b) & (b <= 57) {
+        return b - 48;
+    }
+    if (97 <= b) & (b <= 102) {
+        return b - 87;
+    }
+    if (65 <= b) & (b <= 70) {
+        return b - 55;
+    }
+    16
+}
+
+pub fn is_literal_byte(b: u8) -> bool
+    ensures { λ r. ⌜ r ≡ literalByte b ⌝ }
+{
+    (b == 95) | (digit_of(b) <= 15)
+}

@@ -1,0 +1,4 @@
+pub mod Places
+pub mod Choice
+pub mod Writing
+pub mod Each

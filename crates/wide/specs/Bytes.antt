@@ -1,0 +1,28 @@
+-- Numbers as bytes, little-endian (document 01, 'Trees and their table').
+use Prim.Native.Nat.{ℕ, zero, suc, _+_, _*_, _/_, _%_}
+use mathlib.Core.List.{List, [], _∷_}
+use lib.IntN.{ℤ}
+use lib.ListN.{take, drop}
+use mir.Syntax.{w128}
+use mir.Val.{ofZ, toZ}
+
+-- the k lowest bytes of n, the least first
+unfoldable pub le : ℕ → ℕ → List ℕ
+le zero n = []
+le (suc k) n = n % 256 ∷ le k (n / 256)
+
+-- the number that bytes stand for, the least first
+unfoldable pub number : List ℕ → ℕ
+number [] = 0
+number (b ∷ l) = b + 256 * number l
+
+-- the number in the k bytes of t from p on; bytes past the end count as none
+abbrev pub numberAt : ℕ → List ℕ → ℕ → ℕ
+numberAt k t p = number (take k (drop p t))
+
+-- an integer's 16 bytes, two's complement, and the integer that stands in 16 bytes
+abbrev pub wideBytes : ℤ → List ℕ
+wideBytes z = le 16 (ofZ w128 z)
+
+abbrev pub integerAt : List ℕ → ℕ → ℤ
+integerAt t p = toZ w128 (numberAt 16 t p)
