@@ -1,6 +1,6 @@
 -- What a byte is (document 01, 'How source becomes tokens').
 use Prim.Native.Nat.{ℕ, _-_}
-use mathlib.Core.Bool.{Bool, true, false, not, cond, _&&_, _||_}
+use mathlib.Core.Bool.{Bool, true, false, cond, _&&_, _||_}
 use lib.Dec.{eqb, leb}
 pub use Rattle.classes.specs.declared.Class.{Class}
 pub use Rattle.classes.specs.declared.Class.the-variants.{Space, LineEnd, Semicolon, LParen, RParen, AtSign, FormFeed, Minus, Digit, Other}
@@ -18,40 +18,44 @@ classOf b =
     (cond (eqb b 45) Minus
     (cond (leb 48 b && leb b 57) Digit Other))))))))
 
--- blanks
+-- a question about classes, answered for each in the order above
+abbrev pub asked : Class → (space lineEnd semicolon lparen rparen atSign formFeed minus digit other : Bool) → Bool
+asked Space a b c d e f g h i j = a
+asked LineEnd a b c d e f g h i j = b
+asked Semicolon a b c d e f g h i j = c
+asked LParen a b c d e f g h i j = d
+asked RParen a b c d e f g h i j = e
+asked AtSign a b c d e f g h i j = f
+asked FormFeed a b c d e f g h i j = g
+asked Minus a b c d e f g h i j = h
+asked Digit a b c d e f g h i j = i
+asked Other a b c d e f g h i j = j
+
+-- space, tab, LF, CR
 abbrev pub blank : Class → Bool
-blank Space = true
-blank LineEnd = true
-blank _ = false
+blank c = asked c true true false false false false false false false false
 
--- a line comment runs up to one of these
+-- a line comment runs up to LF or CR
 abbrev pub lineEnd : Class → Bool
-lineEnd LineEnd = true
-lineEnd _ = false
+lineEnd c = asked c false true false false false false false false false false
 
+-- `;`, `(` and `)`, which open and close comments
 abbrev pub semicolon : Class → Bool
-semicolon Semicolon = true
-semicolon _ = false
+semicolon c = asked c false false true false false false false false false false
 
 abbrev pub lparen : Class → Bool
-lparen LParen = true
-lparen _ = false
+lparen c = asked c false false false true false false false false false false
 
 abbrev pub rparen : Class → Bool
-rparen RParen = true
-rparen _ = false
+rparen c = asked c false false false false true false false false false false
 
 -- a symbol begins with any byte but `-`, a digit, `(`, `)`, `;`, `@`, a blank or form feed
 abbrev pub symbolFirst : Class → Bool
-symbolFirst Other = true
-symbolFirst _ = false
+symbolFirst c = asked c false false false false false false false false false true
 
 -- and runs on until `(`, `)`, `;`, `@`, a blank or form feed
 abbrev pub symbolOther : Class → Bool
-symbolOther Minus = true
-symbolOther Digit = true
-symbolOther Other = true
-symbolOther _ = false
+symbolOther c = asked c false false false false false false false true true true
 
 -- a digit's value: `0-9`, `a-f`, `A-F`; 16 of any other byte
 unfoldable pub digitOf : ℕ → ℕ

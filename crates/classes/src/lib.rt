@@ -63,10 +63,7 @@ pub fn is_line_end(b: u8) -> bool
 pub fn is_sym_first_char(b: u8) -> bool
     ensures { λ r. ⌜ r ≡ symbolFirst (classOf b) ⌝ }
 {
-    if is_sym_other_char(b) {
-        return !((b == 45) | ((48 <= b) & (b <= 57)));
-    }
-    false
+    is_sym_other_char(b) & !((b == 45) | ((48 <= b) & (b <= 57)))
 }
 
 pub fn is_sym_other_char(b: u8) -> bool

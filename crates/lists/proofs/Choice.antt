@@ -3,6 +3,8 @@ use Prim.Native.Nat.{ℕ, _≤_}
 use mathlib.Core.Path.{_≡_, refl}
 use mathlib.Core.Bool.{Bool, true, false, cond, _&&_, _||_}
 use native.Mathlib.Omega.{arith}
+use borrow.Author.Tests.{leb-true}
+use lib.Dec.{leb}
 
 -- what holds of both sides, each under its test, holds of the choice
 pub pick : {A : Type 0} (P : A → Type 0) (t : Bool) {x y : A} → (t ≡ true → P x) → (t ≡ false → P y) → P (cond t x y)
@@ -23,3 +25,7 @@ or-right false = refl
 
 pub true-false : {P : Type 0} → _≡_ {A = Bool} true false → P
 true-false e = let z : _≡_ {A = ℕ} 0 1 = cc in absurd (omega arith)
+
+-- the lower end of a range of bytes
+pub at-least : (lo hi b : ℕ) → (leb lo b && leb b hi) ≡ true → lo ≤ b
+at-least lo hi b e = leb-true lo b (and-left (leb lo b) (leb b hi) e)

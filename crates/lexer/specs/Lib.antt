@@ -1,0 +1,5 @@
+pub mod Tokens
+pub mod Literals
+pub mod Lexing
+pub mod Streams
+pub mod Cases
