@@ -1,0 +1,81 @@
+-- Trees (document 01, 'Trees and their table'): what they are, which of them are good, their tokens, and their records in preorder.
+use mathlib.Core.Path.{_≡_}
+use mathlib.Core.Bool.{Bool, true, false, _&&_}
+use mathlib.Core.List.{List, [], _∷_, _++_}
+use Prim.Native.Nat.{ℕ, zero, suc, _+_, _-_, _^_, _≤_, _<_}
+use lib.IntN.{ℤ, pos, negsuc}
+use lib.ListN.{length}
+use Rattle.classes.specs.Classes.{classOf, symbolFirst, symbolOther}
+use Rattle.wide.specs.Bytes.{le, wideBytes}
+use Rattle.lexer.specs.Said.{Said, says, open-paren, close-paren, at-sign, name, number}
+
+-- a tree is a symbol, an integer, a symbol then `@` then a tree, or `(` trees `)`; a file is any number of trees
+mutual
+  pub data Tree : Type 0 where
+    symbol : List ℕ → Tree
+    integer : ℤ → Tree
+    binding : List ℕ → Tree → Tree
+    list : Trees → Tree
+
+  pub data Trees : Type 0 where
+    none : Trees
+    more : Tree → Trees → Trees
+
+abbrev pub count : Trees → ℕ
+count none = 0
+count (more x xs) = suc (count xs)
+
+-- the tokens of a tree in order, before k
+unfoldable mutual
+  pub spoken : Tree → Said → Said
+  spoken (symbol n) k = says (name n) k
+  spoken (integer z) k = says (number z) k
+  spoken (binding n x) k = says (name n) (says at-sign (spoken x k))
+  spoken (list xs) k = says open-paren (spokens xs (says close-paren k))
+
+  pub spokens : Trees → Said → Said
+  spokens none k = k
+  spokens (more x xs) k = spoken x (spokens xs k)
+
+-- bytes that a symbol runs on over
+unfoldable pub runsOn : List ℕ → Bool
+runsOn [] = true
+runsOn (b ∷ n) = symbolOther (classOf b) && runsOn n
+
+-- bytes that the lexer reads as one symbol
+unfoldable pub isSymbol : List ℕ → Bool
+isSymbol [] = false
+isSymbol (b ∷ n) = symbolFirst (classOf b) && runsOn n
+
+-- an integer of -2^127 .. 2^127-1
+abbrev pub InRange : ℤ → Type 0
+InRange (pos n) = n < 2 ^ 127
+InRange (negsuc n) = n < 2 ^ 127
+
+-- with d lists and bindings still to be opened: valid symbols, integers in range, nesting, and lengths and counts that fit their bytes
+unfoldable mutual
+  pub Good : Tree → ℕ → Type 0
+  Good (symbol n) d = (isSymbol n ≡ true) × (length n + 6 < 2 ^ 32)
+  Good (integer z) d = InRange z
+  Good (binding n x) d = (0 < d) × (isSymbol n ≡ true) × (length n + 6 < 2 ^ 32) × Good x (d - 1)
+  Good (list xs) d = (0 < d) × (count xs < 2 ^ 32) × Goods xs (d - 1)
+
+  pub Goods : Trees → ℕ → Type 0
+  Goods none d = Unit {0}
+  Goods (more x xs) d = Good x d × Goods xs d
+
+-- a record: the length of the whole record in 4 bytes, the kind in 2, the payload
+unfoldable pub record-of : ℕ → List ℕ → List ℕ
+record-of kind payload = le 4 (length payload + 6) ++ (le 2 kind ++ payload)
+
+-- kind 1 symbol: its bytes; 2 integer: 16 bytes; 3 binding: the name, its tree follows; 4 list: the item count, items follow
+unfoldable mutual
+  pub records : Tree → List ℕ
+  records (symbol n) = record-of 1 n
+  records (integer z) = record-of 2 (wideBytes z)
+  records (binding n x) = record-of 3 n ++ records x
+  records (list xs) = record-of 4 (le 4 (count xs)) ++ recordsOf xs
+
+  pub recordsOf : Trees → List ℕ
+  recordsOf none = []
+  recordsOf (more x xs) = records x ++ recordsOf xs
