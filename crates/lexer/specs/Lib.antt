@@ -3,4 +3,5 @@ pub mod Literals
 pub mod Lexing
 pub mod Streams
 pub mod Said
+pub mod Code
 pub mod Cases

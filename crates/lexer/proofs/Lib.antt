@@ -1,0 +1,4 @@
+pub mod Runs
+pub mod Comments
+pub mod Digits
+pub mod Starts

@@ -1,0 +1,27 @@
+-- What the lexer's private enums stand for: two bytes of a block comment, and where it ends.
+use Prim.Native.Nat.{ℕ, _+_, _≤_}
+use mathlib.Core.List.{List}
+use mathlib.Core.Bool.{cond, _&&_}
+use lib.ListN.{drop}
+use Rattle.refusals.specs.Numbers.{openComment}
+use Rattle.classes.specs.declared.Class.{Class}
+use Rattle.classes.specs.Classes.{lparen, rparen, semicolon}
+use Rattle.lexer.specs.Tokens.{Answer, refused}
+use Rattle.lexer.specs.Lexing.{Between, lexAt}
+use Rattle.lexer.specs.declared.Mark.{Mark}
+use Rattle.lexer.specs.declared.Mark.the-variants.{Opener, Closer, Neither}
+use Rattle.lexer.specs.declared.Block.{Block}
+use Rattle.lexer.specs.declared.Block.the-variants.{Past, Open}
+
+abbrev pub markOf : Class → Class → Mark
+markOf c c′ = cond (lparen c && semicolon c′) Opener (cond (semicolon c && rparen c′) Closer Neither)
+
+-- what is left to lex of s behind a block comment that was opened at a place
+abbrev pub blockLeft : Block → List ℕ → ℕ → Answer
+blockLeft (Past i) s st = lexAt s i
+blockLeft Open s st = refused openComment st
+
+-- a block comment ends behind its opener
+abbrev pub Beyond : Block → ℕ → Type 0
+Beyond (Past i) st = st + 2 ≤ i
+Beyond Open st = Unit {0}
