@@ -1,0 +1,11 @@
+pub mod TwoLimbs
+pub mod Values
+pub mod Signs
+pub mod Minus
+pub mod Growth
+pub mod Tens
+pub mod Decimals
+pub mod Spelling
+pub mod Numbers
+pub mod Putting
+pub mod Samples

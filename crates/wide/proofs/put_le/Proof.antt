@@ -1,0 +1,61 @@
+-- `wide::put_le`: i bytes stand at the front, and the rest of x is shifted down by as many. The measure is the bytes left.
+use mathlib.Core.Path.{_≡_, refl, sym, ap, _∙_, subst}
+use mathlib.Core.List.{List}
+use Prim.Native.Nat.{ℕ, _+_, _-_, _/_, _%_, _^_, _≤_, _<_}
+use native.Mathlib.Nat.{div-one}
+use native.Mathlib.Omega.{arith}
+use lib.ListN.{length}
+use Rattle.lists.specs.Over.{over}
+use Rattle.lists.proofs.Writing.{Wrote, wrote-length}
+use Rattle.wide.specs.Bytes.{le}
+use Rattle.wide.proofs.Putting.{Go, go-none, go-one, go-all}
+use borrow.Author.Needs.{needs}
+use Rattle.wide.proofs.put_le.Statement.{statement}
+use Rattle.wide.proofs.put_le.Tie as tie
+use Rattle.wide.proofs.put_le.Reads as reads
+use Rattle.wide.proofs.put_le.Lts as lts
+
+abbrev Inv-loop : tie.InvT-loop
+Inv-loop x k out₀ i₀ rest₀ out i rest = Go x k out₀ out i rest
+
+abbrev μ-loop : tie.MeasureT-loop
+μ-loop x k out₀ i₀ rest₀ out i rest = k - i
+
+loop-holds : tie.Need-loop-holds Inv-loop μ-loop
+loop-holds c = go-none _ _ _ (c .pre)
+
+cast-out : tie.Need-cast-out Inv-loop μ-loop
+cast-out c = search needs
+
+slice-write-out : tie.Need-slice-write-out Inv-loop μ-loop
+slice-write-out c = omega (arith, wrote-length (c .before .loop .inv .wrote), c .before .loop .inv .room, c .loop-test .taken)
+
+add-i : tie.Need-add-i Inv-loop μ-loop
+add-i c = search needs
+
+loop-less : tie.Need-loop-less Inv-loop μ-loop
+loop-less c = search needs
+
+loop-again : tie.Need-loop-again Inv-loop μ-loop
+loop-again c = go-one _ _ _ _ _ _ (c .before .loop .inv) (c .loop-test .taken)
+
+same-length : tie.Need-same-length Inv-loop μ-loop
+same-length c = wrote-length (c .before .loop .inv .wrote)
+
+returns : tie.Need-returns Inv-loop μ-loop
+returns c = go-all _ _ _ _ _ _ (c .before .loop .inv) (c .loop-test .left)
+
+pub put-le-spec : {M : Type 1} → statement M
+put-le-spec =
+    tie.close
+    (tie.spec
+    Inv-loop
+    μ-loop
+    loop-holds
+    cast-out
+    slice-write-out
+    add-i
+    loop-less
+    loop-again
+    same-length
+    returns)
