@@ -1,2 +1,4 @@
 pub mod Putting
 pub mod Answers
+pub mod Derived
+pub mod Bounds
