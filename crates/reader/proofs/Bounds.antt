@@ -15,7 +15,7 @@ use Rattle.wide.proofs.Numbers.{le-length, wide-length}
 use Rattle.table.specs.Trees.{Tree, Trees, symbol as symbolTree, integer, binding, list, none, more, count, record-of, records, recordsOf}
 use Rattle.table.proofs.Heads.{length-record}
 use Rattle.reader.specs.Grammar.{nameOf, after}
-use Rattle.reader.specs.Sizes.{Lexes}
+use Rattle.reader.specs.Sizes.{pastOf, Lexes}
 use Rattle.reader.proofs.Derived.{Derives, DerivesAll}
 
 -- the place of a token; of the end and of a refusal, the source's length l
@@ -93,9 +93,25 @@ onward s t h = by (after s t) refl
           weighs = omega (arith, w .from, two);
         }
 
+-- the place past a token, a token's place, and its weight are at most the source's
+pub past-top : (s : List ℕ) (a : Answer) → Lexes s a → pastOf a ≤ length s
+past-top s end h = omega arith
+past-top s (refused n p) h = omega arith
+past-top s (is t) h = within s (h .place) t (h .gives) .to
+
+pub place-top : (s : List ℕ) (a : Answer) → Lexes s a → place (length s) a ≤ length s
+place-top s end h = omega arith
+place-top s (refused n p) h = omega arith
+place-top s (is t) h = omega (arith, past-top s (is t) h)
+
+pub weigh-top : (s : List ℕ) (a : Answer) → Lexes s a → weigh (length s) a ≤ 29 * length s + 15
+weigh-top s end h = omega arith
+weigh-top s (refused n p) h = omega arith
+weigh-top s (is t) h = omega (arith, past-top s (is t) h)
+
 -- ---- the sizes of records
 
-name-length : (s : List ℕ) (t : Token) → past t ≤ length s → length (nameOf s t) ≡ t .size
+pub name-length : (s : List ℕ) (t : Token) → past t ≤ length s → length (nameOf s t) ≡ t .size
 name-length s t h = length-take-le (t .size) (drop (t .start) s) (rw (length-drop (t .start) s) (omega arith))
 
 -- ---- the bounds: from the token a up to the token b, with the bytes n
