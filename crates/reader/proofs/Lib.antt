@@ -5,3 +5,5 @@ pub mod Bounds
 pub mod Trees
 pub mod Sized
 pub mod Arms
+pub mod Written
+pub mod Rooms
