@@ -79,6 +79,9 @@ module _ (s : List ℕ) (x : Lexed) (c : CodeToken) (p : ℕ) where
   pub hand-in : (k : CodeToken) → Lexes s (answerOf x) → x ≡ lexed.Token c p → c ≡ k → past (tokenOf k p) ≤ length s
   hand-in k h e f = past-top s (is (tokenOf k p)) (subst (Lexes s) (hand k e f) h)
 
+  pub hand-name : (n : ℕ) → Lexes s (answerOf x) → x ≡ lexed.Token c p → c ≡ code.Symbol n → length (nameOf s (tokenOf (code.Symbol n) p)) ≡ n
+  hand-name n h e f = name-length s (tokenOf (code.Symbol n) p) (hand-in (code.Symbol n) h e f)
+
   pub hand-next : (k : CodeToken) (b : Answer) → Lexes s (answerOf x) → x ≡ lexed.Token c p → c ≡ k → b ≡ nextToken s (past (tokenOf k p))
       → Further s (answerOf x) b
   hand-next k b h e f g =
@@ -86,7 +89,7 @@ module _ (s : List ℕ) (x : Lexed) (c : CodeToken) (p : ℕ) where
       (subst (Further s (is (tokenOf k p))) (sym g) (further s (tokenOf k p) (subst (Lexes s) (hand k e f) h)))
 
   module _ (d : ℕ) (e : x ≡ lexed.Token c p) where
-    close-read : (f : c ≡ code.RParen) → readTree s d (answerOf x) ≡ closed (tokenOf code.RParen p)
+    pub close-read : (f : c ≡ code.RParen) → readTree s d (answerOf x) ≡ closed (tokenOf code.RParen p)
     close-read f = ap (readTree s d) (hand code.RParen e f) ∙ read-rparen s d (tokenOf code.RParen p) refl
 
     pub at-read : c ≡ code.At → readTree s d (answerOf x) ≡ no noSymbol p
@@ -145,8 +148,7 @@ module _ (s : List ℕ) (x : Lexed) (c : CodeToken) (p : ℕ) where
     pub name-size : (n : ℕ) (b : Answer) (g : Sign) → Lexes s (answerOf x) → c ≡ code.Symbol n → b ≡ nextToken s (p + n) → g ≡ signOf b → g ≡ Other
         → takes (n + 6) b ≡ sizeOf (readTree s d (answerOf x))
     name-size n b g l f k eg eo =
-        let j = name-length s (tokenOf (code.Symbol n) p) (hand-in (code.Symbol n) l e f) in
-        ap (λ (m : ℕ). takes m b) (sym (symbol-size (nameOf s (tokenOf (code.Symbol n) p)) n j)) ∙ sym (ap sizeOf (name-read n b g f k eg eo))
+        ap (λ (m : ℕ). takes m b) (sym (symbol-size (nameOf s (tokenOf (code.Symbol n) p)) n (hand-name n l e f))) ∙ sym (ap sizeOf (name-read n b g f k eg eo))
 
     pub bind-deep-size : (r : Size) (n q : ℕ) (b : Answer) (g : Sign) → c ≡ code.Symbol n → b ≡ nextToken s (p + n) → g ≡ signOf b → g ≡ At q → d ≡ 0
         → r ≡ not tooDeep p → r ≡ sizeOf (readTree s d (answerOf x))
@@ -156,6 +158,5 @@ module _ (s : List ℕ) (x : Lexed) (c : CodeToken) (p : ℕ) where
         → g ≡ signOf b → g ≡ At q → (d ≡ 0 → ⊥) → v ≡ nextToken s q → m ≡ sizeOf (readTree s (d - 1) v) → r ≡ bindSize (length s) n m
         → r ≡ sizeOf (readTree s d (answerOf x))
     bound-size r m n q b v g l f k eg eq h ev em er =
-        let j = name-length s (tokenOf (code.Symbol n) p) (hand-in (code.Symbol n) l e f) in
-        er ∙ ap (bindSize (length s) n) em ∙ bind-size s (nameOf s (tokenOf (code.Symbol n) p)) n (readTree s (d - 1) v) j
+        er ∙ ap (bindSize (length s) n) em ∙ bind-size s (nameOf s (tokenOf (code.Symbol n) p)) n (readTree s (d - 1) v) (hand-name n l e f)
         ∙ sym (ap sizeOf (bind-read n q b v g f k eg eq h ev))
