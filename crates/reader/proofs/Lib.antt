@@ -7,3 +7,4 @@ pub mod Sized
 pub mod Arms
 pub mod Written
 pub mod Rooms
+pub mod Files
