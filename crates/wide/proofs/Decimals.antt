@@ -1,9 +1,8 @@
 -- Decimal text: how long it is, which bytes it has, and one digit more or less. Assumes nothing.
 use mathlib.Core.Path.{_≡_, refl, sym, ap, _∙_, subst}
-use mathlib.Core.Bool.{Bool, true, false, cond}
 use mathlib.Core.List.{List, [], _∷_, _++_}
 use mathlib.Core.Logic.{_⊎_, inl, inr, ⊎-elim}
-use Prim.Native.Nat.{ℕ, zero, suc, _+_, _*_, _/_, _%_, _^_, _≤_, _<_}
+use Prim.Native.Nat.{ℕ, zero, suc, _+_, _/_, _%_, _^_, _≤_, _<_}
 use native.Mathlib.Nat.{pow-suc, div-lt-iff-lt-mul, lt-of-lt-of-le}
 use native.Mathlib.Omega.{arith}
 use lib.Dec.{ltb, lit<, lit≤}
@@ -28,6 +27,10 @@ few (suc k) n h l = omega arith
 
 shorter : (k n : ℕ) → n < 10 ^ suc k → n / 10 < 10 ^ k
 shorter k n h = div-lt-iff-lt-mul {k = 10} {x = n} {y = 10 ^ k} (lit< tt) .1 (subst (λ (x : ℕ). n < x) (pow-suc 10 k) h)
+
+front : (a b : List ℕ) → 49 ≤ getD a 0 0 → 49 ≤ getD (a ++ b) 0 0
+front [] b h = absurd (omega arith)
+front (x ∷ a) b h = h
 
 -- once there is room for the digits, one place more changes nothing
 pub digits-room : (k n : ℕ) → 1 ≤ k → n < 10 ^ k → digits (suc k) n ≡ digits k n
@@ -74,6 +77,20 @@ pub decimal-top : (z : ℤ) → length (decimalOf z) ≤ 40
 unfolding decimalOf
 decimal-top (pos n) = omega (arith, text-top n)
 decimal-top (negsuc n) = omega (arith, text-top (suc n))
+
+-- no leading zero
+pub digits-first : (k n : ℕ) → 0 < n → n < 10 ^ k → 49 ≤ getD (digits k n) 0 0
+digits-first zero n h l = absurd (omega (arith, l))
+digits-first (suc k) n h l = ⊎-elim one (λ p. more p (digits-first k (n / 10) (omega arith) (shorter k n l))) (which n 10)
+  where
+    one : n < 10 → 49 ≤ getD (digits (suc k) n) 0 0
+    one p = rw (digits-one k n p) (omega arith)
+
+    more : 10 ≤ n → 49 ≤ getD (digits k (n / 10)) 0 0 → 49 ≤ getD (digits (suc k) n) 0 0
+    more p e = rw (digits-more k n p) (front (digits k (n / 10)) ((48 + n % 10) ∷ []) e)
+
+pub text-first : (n : ℕ) → 0 < n → n < 2 ^ 128 → 49 ≤ getD (digitsOf n) 0 0
+text-first n h l = digits-first 39 n h (lt-of-lt-of-le l (lit≤ tt))
 
 -- every byte is one of `0` to `9`
 abbrev pub Digits : List ℕ → Type 0

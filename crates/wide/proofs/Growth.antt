@@ -1,14 +1,12 @@
 -- Two limbs times a radix plus a digit: over a variable base, since omega stops at 38 digits. Assumes nothing.
-use mathlib.Core.Path.{_≡_, refl, sym, ap, _∙_, subst}
-use Prim.Native.Nat.{ℕ, zero, suc, _+_, _*_, _-_, _/_, _%_, _^_, _≤_, _<_}
-use native.Mathlib.Nat.{add-mul, mul-assoc, mul-comm, mul-left-comm, mul-le-mul-left, mul-le-mul-right, le-trans, le-add-right, one-mul, pos-of-ne-zero}
+use mathlib.Core.Path.{_≡_, sym, ap, _∙_, subst}
+use Prim.Native.Nat.{ℕ, _+_, _*_, _/_, _%_, _^_, _≤_, _<_}
+use native.Mathlib.Nat.{add-mul, mul-assoc, mul-comm, mul-le-mul-left, mul-le-mul-right, le-trans, pos-of-ne-zero}
 use native.Mathlib.Omega.{arith}
 use lib.Pow.{split}
 use mathlib.Core.Bool.{Bool, cond}
-use lib.Arith.{digits-lt}
-use lib.Dec.{ltb}
 use borrow.Author.Tests.{lt-ltb, le-ltb}
-use Rattle.wide.specs.Value.{Limbs, Grown, Fits, Over, val, split as halves-of, grown}
+use Rattle.wide.specs.Value.{Limbs, Fits, Over, val, split as halves-of, grown}
 use Rattle.wide.proofs.TwoLimbs.{limbs-of, val-lt}
 
 pub small : (p r : ℕ) → p < 2 ^ 32 → r ≤ 255 → p * r ≤ 1095216660225

@@ -1,3 +1,4 @@
+-- The laws: other crates cite TwoLimbs, Values, Decimals and Numbers; the rest serve the proofs of this crate.
 pub mod TwoLimbs
 pub mod Values
 pub mod Signs

@@ -1,14 +1,13 @@
 -- What a literal's number becomes, with a minus and without, and 2^127 by limbs. Assumes nothing.
-use mathlib.Core.Path.{_≡_, refl, sym, ap, _∙_, subst}
+use mathlib.Core.Path.{_≡_, sym, ap, _∙_}
 use mathlib.Core.Bool.{Bool, true, false, cond}
 use Prim.Native.Nat.{ℕ, _+_, _*_, _-_, _/_, _%_, _^_, _<_}
 use lib.Arith.{digits-div, digits-mod}
-use lib.Dec.{eqb}
 use lib.IntN.{ℤ}
 use borrow.Author.Tests.{eq-eqb, ne-eqb}
 use mir.Syntax.{w128}
 use mir.Val.{toZ}
-use Rattle.wide.specs.Value.{Integer, is, refused, integerOf}
+use Rattle.wide.specs.Value.{is, refused, integerOf}
 
 pub refuses : (b : Bool) (h l : ℕ) → b ≡ true → h ≡ 2 ^ 63 → l ≡ 0 → refused ≡ integerOf b (h * 2 ^ 64 + l)
 unfolding integerOf

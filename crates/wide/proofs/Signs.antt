@@ -2,14 +2,13 @@
 use mathlib.Core.Path.{_≡_, refl, sym, ap, _∙_}
 use mathlib.Core.Bool.{Bool, true, false}
 use mathlib.Core.Logic.{_⊎_, inl, inr, ⊎-elim}
-use Prim.Native.Nat.{ℕ, zero, suc, _+_, _*_, _-_, _%_, _^_, _≤_, _<_}
+use Prim.Native.Nat.{ℕ, suc, _+_, _*_, _-_, _%_, _^_, _≤_, _<_}
 use native.Mathlib.Omega.{arith}
-use native.Mathlib.Nat.{add-mul, add-suc, suc-mul, mod-self, mod-eq-of-lt, pos-of-ne-zero, lt-of-lt-of-le, le-add-left}
+use native.Mathlib.Nat.{add-mul, add-suc, suc-mul, mod-eq-of-lt, pos-of-ne-zero, lt-of-lt-of-le, le-add-left}
 use lib.Arith.{digits-lt, le-zero}
-use lib.IntN.{ℤ, pos, negsuc, negℤ, _+ℤ_, _*ℤ_, natAbs}
+use lib.IntN.{ℤ, pos, negsuc, natAbs}
 use lib.Signed.{mag, ltZ}
-use lib.Dec.{ltb}
-use borrow.Author.Tests.{lt-ltb, le-ltb, ltb-true, ltb-false}
+use borrow.Author.Tests.{le-ltb, ltb-true}
 use mir.Syntax.{w64, w128}
 use mir.Val.{SFits, toZ, ofZ}
 use mir.ValLaws.{toZ-ofZ, toZ-pos, toZ-neg}

@@ -1,20 +1,19 @@
 -- Counting digits and putting them from the last to the first: the laws of the loops. Assumes nothing.
 use mathlib.Core.Path.{_≡_, refl, sym, ap, _∙_, subst}
-use mathlib.Core.Bool.{Bool, true, false, cond}
+use mathlib.Core.Bool.{Bool, true, false}
 use mathlib.Core.List.{List, [], _∷_, _++_, append-assoc}
-use Prim.Native.Nat.{ℕ, zero, suc, _+_, _*_, _-_, _/_, _%_, _^_, _≤_, _<_}
+use Prim.Native.Nat.{ℕ, suc, _+_, _*_, _-_, _/_, _%_, _^_, _≤_, _<_}
 use native.Mathlib.Nat.{div-le-self, lt-of-le-of-lt}
 use native.Mathlib.Omega.{arith}
 use lib.Arith.{digits-lt}
-use lib.Dec.{ltb, leb}
 use lib.IntN.{ℤ, pos, negsuc, natAbs}
-use lib.ListN.{length, drop, set, getD, length-set, length-append}
+use lib.ListN.{length, drop, set, length-set, length-append}
 use lib.Seq.{drop-cons, getD-set-same, drop-set-lt}
 use lib.Signed.{ltZ}
 use borrow.Author.Tests.{ltb-true}
 use Rattle.lists.specs.Over.{over}
 use Rattle.wide.specs.Decimal.{digitsOf, decimalOf}
-use Rattle.wide.proofs.Decimals.{text-one, text-more, text-low, text-top}
+use Rattle.wide.proofs.Decimals.{text-one, text-more, text-low}
 
 pub big : (hi lo : ℕ) → 0 < hi → 10 ≤ hi * 2 ^ 64 + lo
 big hi lo h = omega arith

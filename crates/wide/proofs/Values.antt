@@ -4,12 +4,12 @@ use mathlib.Core.Bool.{true}
 use Prim.Native.Nat.{ℕ, suc, _+_, _*_, _-_, _/_, _%_, _^_, _<_}
 use native.Mathlib.Omega.{arith}
 use lib.Arith.{digits-lt, digits-div, digits-mod}
-use lib.IntN.{ℤ, pos, negsuc, natAbs}
+use lib.IntN.{ℤ, pos, negsuc}
 use lib.Dec.{ltb}
 use borrow.Author.Tests.{lt-ltb}
 use mir.Syntax.{w64, w128}
 use mir.Val.{SFits}
-use Rattle.wide.specs.Value.{Wide, valueOf, value}
+use Rattle.wide.specs.Value.{Wide, valueOf, value, Signed, Is, Refused, signedOf}
 
 pub value-neg : (k l : ℕ) → l < 2 ^ 64 → valueOf (negsuc k) l ≡ negsuc (k * 2 ^ 64 + (2 ^ 64 - suc l))
 unfolding valueOf
@@ -66,6 +66,17 @@ value-same a b p q e =
   where
     wide-at : (h h′ : ℤ) (l l′ : ℕ) → h ≡ h′ → l ≡ l′ → _≡_ {A = Wide} (record { hi = h; lo = l }) (record { hi = h′; lo = l′ })
     wide-at h h′ l l′ p q = rw (p, q) refl
+
+-- so is an answer that may be a refusal
+abbrev pub LowFits : Signed → Type 0
+LowFits (Is w) = w .lo < 2 ^ 64
+LowFits Refused = Unit {0}
+
+pub signed-same : (a b : Signed) → LowFits a → LowFits b → signedOf a ≡ signedOf b → a ≡ b
+signed-same (Is a) (Is b) p q e = let f : value a ≡ value b = cc in ap Is (value-same a b p q f)
+signed-same (Is a) Refused p q e = let z : _≡_ {A = ℕ} 0 1 = cc in absurd (omega arith)
+signed-same Refused (Is b) p q e = let z : _≡_ {A = ℕ} 0 1 = cc in absurd (omega arith)
+signed-same Refused Refused p q e = refl
 
 -- limbs of 64 bits hold an integer of 128
 pub value-fits : (z : ℤ) (l : ℕ) → SFits w64 z → l < 2 ^ 64 → SFits w128 (valueOf z l)

@@ -7,8 +7,6 @@ use mir.Val.{toZ}
 use borrow.Author.Needs.{needs}
 use Rattle.wide.proofs.as_signed.Statement.{statement}
 use Rattle.wide.proofs.as_signed.Tie as tie
-use Rattle.wide.proofs.as_signed.Reads as reads
-use Rattle.wide.proofs.as_signed.Lts as lts
 
 cast-result : tie.Need-cast-result
 cast-result c = search needs

@@ -3,11 +3,8 @@ use native.Mathlib.Omega.{arith}
 use mir.Syntax.{w64}
 use mir.ValLaws.{ofZ-fits}
 use Rattle.wide.proofs.Signs.{flip, below-bits, keep}
-use borrow.Author.Needs.{needs}
 use Rattle.wide.proofs.as_unsigned.Statement.{statement}
 use Rattle.wide.proofs.as_unsigned.Tie as tie
-use Rattle.wide.proofs.as_unsigned.Reads as reads
-use Rattle.wide.proofs.as_unsigned.Lts as lts
 
 cast-k : tie.Need-cast-k
 cast-k c = rw (flip _ (c .before .fits .z) (c .if1 .taken)) (tt, omega arith)

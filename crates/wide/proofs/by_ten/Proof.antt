@@ -6,8 +6,6 @@ use Rattle.wide.proofs.Tens.{quotient, digit, pair-fits, upper-lt}
 use borrow.Author.Needs.{needs}
 use Rattle.wide.proofs.by_ten.Statement.{statement}
 use Rattle.wide.proofs.by_ten.Tie as tie
-use Rattle.wide.proofs.by_ten.Reads as reads
-use Rattle.wide.proofs.by_ten.Lts as lts
 
 mul-a : tie.Need-mul-a
 mul-a c = search needs

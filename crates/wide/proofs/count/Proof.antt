@@ -1,5 +1,5 @@
 -- `wide::count`: the digits counted and those of the two limbs left are those of n. The measure is the number left.
-use mathlib.Core.Path.{_≡_, ap, _∙_}
+use mathlib.Core.Path.{_≡_, ap}
 use Prim.Native.Nat.{ℕ, _+_, _*_, _^_}
 use native.Mathlib.Omega.{arith}
 use lib.ListN.{length}
@@ -10,10 +10,6 @@ use Rattle.wide.proofs.Spelling.{Counted, big, both, alone, falls, coun
 use borrow.Author.Needs.{needs}
 use Rattle.wide.proofs.count.Statement.{statement}
 use Rattle.wide.proofs.count.Tie as tie
-use Rattle.wide.proofs.count.Reads as reads
-use Rattle.wide.proofs.count.Lts as lts
-use Rattle.wide.proofs.by_ten.Reads as by-ten-reads
-use Rattle.wide.proofs.count_low.Reads as count-low-reads
 
 abbrev Inv-loop : tie.InvT-loop
 Inv-loop hi₀ lo₀ k₀ hi lo k = Counted (length (digitsOf (hi₀ * 2 ^ 64 + lo₀))) k (hi * 2 ^ 64 + lo)

@@ -1,16 +1,13 @@
 -- `wide::count_low`: the digits counted and those of what is left are those of x. The measure is what is left.
-use mathlib.Core.Path.{_≡_, refl}
+use mathlib.Core.Path.{refl}
 use Prim.Native.Nat.{_+_}
 use native.Mathlib.Omega.{arith}
 use lib.ListN.{length}
 use Rattle.wide.specs.Decimal.{digitsOf}
 use Rattle.wide.proofs.Decimals.{text-top}
 use Rattle.wide.proofs.Spelling.{Counted, low-lt, count-more, count-small, count-one}
-use borrow.Author.Needs.{needs}
 use Rattle.wide.proofs.count_low.Statement.{statement}
 use Rattle.wide.proofs.count_low.Tie as tie
-use Rattle.wide.proofs.count_low.Reads as reads
-use Rattle.wide.proofs.count_low.Lts as lts
 
 abbrev Inv-loop : tie.InvT-loop
 Inv-loop x rest₀ k₀ rest k = Counted (length (digitsOf x) + 1) k rest

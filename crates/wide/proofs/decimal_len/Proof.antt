@@ -1,5 +1,5 @@
 -- `wide::decimal_len`: the digits of the magnitude, and a place for the minus sign.
-use mathlib.Core.Path.{_≡_, ap, _∙_, sym}
+use mathlib.Core.Path.{ap, _∙_, sym}
 use native.Mathlib.Omega.{arith}
 use lib.ListN.{length}
 use Rattle.wide.specs.Value.{val, value}
@@ -8,11 +8,6 @@ use Rattle.wide.proofs.Spelling.{minus-text, plain-text}
 use borrow.Author.Needs.{needs}
 use Rattle.wide.proofs.decimal_len.Statement.{statement}
 use Rattle.wide.proofs.decimal_len.Tie as tie
-use Rattle.wide.proofs.decimal_len.Reads as reads
-use Rattle.wide.proofs.decimal_len.Lts as lts
-use Rattle.wide.proofs.count.Reads as count-reads
-use Rattle.wide.proofs.magnitude.Reads as magnitude-reads
-use Rattle.wide.proofs.negative.Reads as negative-reads
 
 magnitude-requires : tie.Need-magnitude-requires
 magnitude-requires c κs = search needs

@@ -5,9 +5,6 @@ use Rattle.wide.proofs.Numbers.{number-eight}
 use borrow.Author.Needs.{needs}
 use Rattle.wide.proofs.eight.Statement.{statement}
 use Rattle.wide.proofs.eight.Tie as tie
-use Rattle.wide.proofs.eight.Reads as reads
-use Rattle.wide.proofs.eight.Lts as lts
-use Rattle.wide.proofs.four.Reads as four-reads
 
 four-requires : tie.Need-four-requires
 four-requires c κs = search needs

@@ -1,15 +1,10 @@
 -- `wide::four`: two numbers of two bytes.
-use mathlib.Core.Path.{_≡_}
-use Prim.Native.Nat.{_+_, _*_}
 use native.Mathlib.Omega.{arith}
 use denote.Ref.{now}
 use Rattle.wide.proofs.Numbers.{number-four}
 use borrow.Author.Needs.{needs}
 use Rattle.wide.proofs.four.Statement.{statement}
 use Rattle.wide.proofs.four.Tie as tie
-use Rattle.wide.proofs.four.Reads as reads
-use Rattle.wide.proofs.four.Lts as lts
-use Rattle.wide.proofs.two.Reads as two-reads
 
 two-requires : tie.Need-two-requires
 two-requires c κs = search needs

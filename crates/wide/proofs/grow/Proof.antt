@@ -1,15 +1,10 @@
 -- `wide::grow`: one product below 2^56, else two with a carry; the last carry says whether 128 bits hold the number.
-use mathlib.Core.Path.{_≡_, sym, _∙_}
-use Prim.Native.Nat.{_+_, _*_, _^_, _<_, _≤_}
 use native.Mathlib.Omega.{arith}
 use Rattle.wide.specs.Value.{val}
 use Rattle.wide.proofs.Growth.{fits, over, short, short-val, fitting, above}
 use borrow.Author.Needs.{needs}
 use Rattle.wide.proofs.grow.Statement.{statement}
 use Rattle.wide.proofs.grow.Tie as tie
-use Rattle.wide.proofs.grow.Reads as reads
-use Rattle.wide.proofs.grow.Lts as lts
-use Rattle.wide.proofs.times.Reads as times-reads
 
 mul-t10 : tie.Need-mul-t10
 mul-t10 c =

@@ -1,16 +1,11 @@
 -- `wide::holds`: the sum in the contract is of numbers, the code subtracts.
-use mathlib.Core.Path.{_≡_, sym}
-use mathlib.Core.Bool.{Bool}
-use Prim.Native.Nat.{ℕ, _+_, _-_, _≤_, _<_}
+use mathlib.Core.Path.{sym}
+use Prim.Native.Nat.{_+_}
 use native.Mathlib.Omega.{arith}
-use lib.Dec.{leb}
 use borrow.Author.Tests.{lt-leb}
 use Rattle.wide.proofs.TwoLimbs.{leb-sub}
-use borrow.Author.Needs.{needs}
 use Rattle.wide.proofs.holds.Statement.{statement}
 use Rattle.wide.proofs.holds.Tie as tie
-use Rattle.wide.proofs.holds.Reads as reads
-use Rattle.wide.proofs.holds.Lts as lts
 
 returns : tie.Need-returns
 returns c = sym (lt-leb (c .before .args .at + c .before .args .k) (c .before .args .n) (omega arith))

@@ -10,11 +10,6 @@ use Rattle.wide.proofs.Signs.{size-below, size-above}
 use borrow.Author.Needs.{needs}
 use Rattle.wide.proofs.magnitude.Statement.{statement}
 use Rattle.wide.proofs.magnitude.Tie as tie
-use Rattle.wide.proofs.magnitude.Reads as reads
-use Rattle.wide.proofs.magnitude.Lts as lts
-use Rattle.wide.proofs.as_unsigned.Reads as as-unsigned-reads
-use Rattle.wide.proofs.negated.Reads as negated-reads
-use Rattle.wide.proofs.negative.Reads as negative-reads
 
 as-unsigned-requires : tie.Need-as-unsigned-requires
 as-unsigned-requires c κs = search needs

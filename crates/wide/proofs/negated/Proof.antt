@@ -6,9 +6,6 @@ use Rattle.wide.proofs.Signs.{negated-law}
 use borrow.Author.Needs.{needs}
 use Rattle.wide.proofs.negated.Statement.{statement}
 use Rattle.wide.proofs.negated.Tie as tie
-use Rattle.wide.proofs.negated.Reads as reads
-use Rattle.wide.proofs.negated.Lts as lts
-use Rattle.std.proofs.num.wrapping_sub_u64.Reads as wrapping-sub-u64-reads
 
 wrapping-sub-u64-requires : tie.Need-wrapping-sub-u64-requires
 wrapping-sub-u64-requires c κs = search needs

@@ -4,14 +4,10 @@ use native.Mathlib.Omega.{arith}
 use lib.IntN.{ℤ, pos}
 use lib.Signed.{ltZ}
 use mir.Syntax.{w64}
-use mir.Val.{SFits}
 use mir.ValLaws.{toZ-ofZ}
 use Rattle.wide.proofs.Signs.{sign}
-use borrow.Author.Needs.{needs}
 use Rattle.wide.proofs.negative.Statement.{statement}
 use Rattle.wide.proofs.negative.Tie as tie
-use Rattle.wide.proofs.negative.Reads as reads
-use Rattle.wide.proofs.negative.Lts as lts
 
 returns : tie.Need-returns
 returns c =

@@ -1,7 +1,7 @@
 -- `wide::put_decimal`: the text's length is known before a byte is put; a minus sign comes first, and the digits go into the rest of the buffer.
-use mathlib.Core.Path.{_≡_, sym, ap, _∙_}
-use mathlib.Core.List.{List, _∷_}
-use Prim.Native.Nat.{ℕ, _+_, _-_, _≤_, _<_}
+use mathlib.Core.Path.{sym, ap, _∙_}
+use mathlib.Core.List.{List}
+use Prim.Native.Nat.{ℕ}
 use native.Mathlib.Omega.{arith}
 use denote.Ref.{now}
 use lib.ListN.{length, length-set}
@@ -15,12 +15,6 @@ use Rattle.wide.proofs.Putting.{fits-in, no-room, minus-put, minus-room
 use borrow.Author.Needs.{needs}
 use Rattle.wide.proofs.put_decimal.Statement.{statement}
 use Rattle.wide.proofs.put_decimal.Tie as tie
-use Rattle.wide.proofs.put_decimal.Reads as reads
-use Rattle.wide.proofs.put_decimal.Lts as lts
-use Rattle.wide.proofs.count.Reads as count-reads
-use Rattle.wide.proofs.magnitude.Reads as magnitude-reads
-use Rattle.wide.proofs.negative.Reads as negative-reads
-use Rattle.wide.proofs.put_digits.Reads as put-digits-reads
 
 magnitude-requires : tie.Need-magnitude-requires
 magnitude-requires c κs = search needs
@@ -93,9 +87,11 @@ returns-4 c =
     let a = c .before .before .before .before .before .before .before .before .before .before .args in
     let z = value (a .w) in
     let e = plain-text z _ _ (c .before .before .before .before .before .before .before .before .magnitude .ensures) (c .before .before .before .before .before .before .negative .ensures) (c .before .before .before .before .before .if1 .left) in
-    let k = c .before .before .before .before .before .before .before .count .ensures in
-    (k ∙ sym (ap length e), fits-in (decimalOf z) (now (a .out)) _ (omega (arith, k, c .before .before .before .before .if3 .left, ap length e))
-    (c .before .before .put-digits2 .ensures ∙ ap (λ (t : List ℕ). over t (now (a .out))) (sym e)))
+    let k = c .before .before .before .before .before .before .before .count .ensures in (
+      k ∙ sym (ap length e),
+      fits-in (decimalOf z) (now (a .out)) _ (omega (arith, k, c .before .before .before .before .if3 .left, ap length e))
+          (c .before .before .put-digits2 .ensures ∙ ap (λ (t : List ℕ). over t (now (a .out))) (sym e)),
+    )
 
 pub put-decimal-spec : {M : Type 1} → statement M
 put-decimal-spec =

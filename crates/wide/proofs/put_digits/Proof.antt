@@ -1,6 +1,5 @@
 -- `wide::put_digits`: the digits left to put and those that stand make up the text; the low limb's are put by `put_low`. The measure is the number left.
-use mathlib.Core.Path.{_≡_, sym, _∙_}
-use Prim.Native.Nat.{_+_, _*_, _-_, _^_, _<_}
+use Prim.Native.Nat.{_+_, _*_, _^_}
 use native.Mathlib.Omega.{arith}
 use lib.ListN.{length}
 use Rattle.lists.specs.Over.{over}
@@ -10,10 +9,6 @@ use Rattle.wide.proofs.Spelling.{Fill, begin, low, step, big, both, fal
 use borrow.Author.Needs.{needs}
 use Rattle.wide.proofs.put_digits.Statement.{statement}
 use Rattle.wide.proofs.put_digits.Tie as tie
-use Rattle.wide.proofs.put_digits.Reads as reads
-use Rattle.wide.proofs.put_digits.Lts as lts
-use Rattle.wide.proofs.by_ten.Reads as by-ten-reads
-use Rattle.wide.proofs.put_low.Reads as put-low-reads
 
 abbrev Inv-loop : tie.InvT-loop
 Inv-loop k out₀ at₀ hi₀ lo₀ out at hi lo = Fill (over (digitsOf (hi₀ * 2 ^ 64 + lo₀)) out₀) out (length out₀) at (hi * 2 ^ 64 + lo)

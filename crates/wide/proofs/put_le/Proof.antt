@@ -1,19 +1,11 @@
 -- `wide::put_le`: i bytes stand at the front, and the rest of x is shifted down by as many. The measure is the bytes left.
-use mathlib.Core.Path.{_≡_, refl, sym, ap, _∙_, subst}
-use mathlib.Core.List.{List}
-use Prim.Native.Nat.{ℕ, _+_, _-_, _/_, _%_, _^_, _≤_, _<_}
-use native.Mathlib.Nat.{div-one}
+use Prim.Native.Nat.{_-_}
 use native.Mathlib.Omega.{arith}
-use lib.ListN.{length}
-use Rattle.lists.specs.Over.{over}
-use Rattle.lists.proofs.Writing.{Wrote, wrote-length}
-use Rattle.wide.specs.Bytes.{le}
+use Rattle.lists.proofs.Writing.{wrote-length}
 use Rattle.wide.proofs.Putting.{Go, go-none, go-one, go-all}
 use borrow.Author.Needs.{needs}
 use Rattle.wide.proofs.put_le.Statement.{statement}
 use Rattle.wide.proofs.put_le.Tie as tie
-use Rattle.wide.proofs.put_le.Reads as reads
-use Rattle.wide.proofs.put_le.Lts as lts
 
 abbrev Inv-loop : tie.InvT-loop
 Inv-loop x k out₀ i₀ rest₀ out i rest = Go x k out₀ out i rest

@@ -1,7 +1,6 @@
 -- `wide::put_low`: the digits left to put and those that stand make up the text. The measure is what is left of x.
-use mathlib.Core.Path.{_≡_, refl, _∙_}
+use mathlib.Core.Path.{refl}
 use native.Mathlib.Omega.{arith}
-use Prim.Native.Nat.{_+_, _-_, _<_}
 use lib.ListN.{length, length-set}
 use Rattle.lists.specs.Over.{over}
 use Rattle.wide.specs.Decimal.{digitsOf}
@@ -9,8 +8,6 @@ use Rattle.wide.proofs.Spelling.{Fill, begin, low, step, last, low-lt}
 use borrow.Author.Needs.{needs}
 use Rattle.wide.proofs.put_low.Statement.{statement}
 use Rattle.wide.proofs.put_low.Tie as tie
-use Rattle.wide.proofs.put_low.Reads as reads
-use Rattle.wide.proofs.put_low.Lts as lts
 
 abbrev Inv-loop : tie.InvT-loop
 Inv-loop x k out₀ at₀ rest₀ out at rest = Fill (over (digitsOf x) out₀) out (length out₀) at rest

@@ -1,15 +1,11 @@
 -- `wide::put_u32`: four bytes where there is room.
 use native.Mathlib.Omega.{arith}
-use denote.Ref.{now}
 use Rattle.wide.specs.Bytes.{le}
 use Rattle.wide.proofs.Numbers.{le-length}
 use Rattle.wide.proofs.Putting.{fits-in, no-room}
 use borrow.Author.Needs.{needs}
 use Rattle.wide.proofs.put_u32.Statement.{statement}
 use Rattle.wide.proofs.put_u32.Tie as tie
-use Rattle.wide.proofs.put_u32.Reads as reads
-use Rattle.wide.proofs.put_u32.Lts as lts
-use Rattle.wide.proofs.put_le.Reads as put-le-reads
 
 returns : tie.Need-returns
 returns c =

@@ -2,7 +2,7 @@
 use mathlib.Core.Path.{ap, _∙_}
 use native.Mathlib.Omega.{arith}
 use denote.Ref.{now}
-use mir.Syntax.{w64, w128}
+use mir.Syntax.{w64}
 use mir.Val.{SFits, ofZ}
 use mir.ValLaws.{toZ-ofZ}
 use Rattle.wide.specs.Value.{value}
@@ -12,10 +12,6 @@ use Rattle.wide.proofs.Putting.{sixteen, no-room}
 use borrow.Author.Needs.{needs}
 use Rattle.wide.proofs.put_wide.Statement.{statement}
 use Rattle.wide.proofs.put_wide.Tie as tie
-use Rattle.wide.proofs.put_wide.Reads as reads
-use Rattle.wide.proofs.put_wide.Lts as lts
-use Rattle.wide.proofs.as_unsigned.Reads as as-unsigned-reads
-use Rattle.wide.proofs.put_le.Reads as put-le-reads
 
 returns : tie.Need-returns
 returns c =

@@ -5,8 +5,6 @@ use Rattle.wide.proofs.Growth.{small, columns, halves}
 use borrow.Author.Needs.{needs}
 use Rattle.wide.proofs.times.Statement.{statement}
 use Rattle.wide.proofs.times.Tie as tie
-use Rattle.wide.proofs.times.Reads as reads
-use Rattle.wide.proofs.times.Lts as lts
 
 abbrev x·lo : (c : tie.Start) → c .args .x % 2 ^ 32 * c .args .radix ≤ 1095216660225
 x·lo c = small (c .args .x % 2 ^ 32) (c .args .radix) (omega arith) (c .pre .0)

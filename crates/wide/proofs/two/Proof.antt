@@ -6,8 +6,6 @@ use Rattle.wide.proofs.Numbers.{number-two}
 use borrow.Author.Needs.{needs}
 use Rattle.wide.proofs.two.Statement.{statement}
 use Rattle.wide.proofs.two.Tie as tie
-use Rattle.wide.proofs.two.Reads as reads
-use Rattle.wide.proofs.two.Lts as lts
 
 shared-slice-read-result : tie.Need-shared-slice-read-result
 shared-slice-read-result c = search needs

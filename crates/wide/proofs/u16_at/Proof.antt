@@ -6,10 +6,6 @@ use Rattle.wide.proofs.Numbers.{number-in, number-out}
 use borrow.Author.Needs.{needs}
 use Rattle.wide.proofs.u16_at.Statement.{statement}
 use Rattle.wide.proofs.u16_at.Tie as tie
-use Rattle.wide.proofs.u16_at.Reads as reads
-use Rattle.wide.proofs.u16_at.Lts as lts
-use Rattle.wide.proofs.holds.Reads as holds-reads
-use Rattle.wide.proofs.two.Reads as two-reads
 
 holds-requires : tie.Need-holds-requires
 holds-requires c κs = search needs

@@ -1,6 +1,6 @@
 -- `wide::wide_at`: two limbs of eight bytes, read only where the test finds sixteen.
-use mathlib.Core.Path.{_≡_, sym, ap, _∙_}
-use Prim.Native.Nat.{ℕ, _+_, _*_, _^_, _≤_}
+use mathlib.Core.Path.{sym, ap, _∙_}
+use Prim.Native.Nat.{_+_, _≤_}
 use native.Mathlib.Omega.{arith}
 use denote.Ref.{now}
 use lib.ListN.{length}
@@ -12,11 +12,6 @@ use Rattle.wide.proofs.Numbers.{number-limbs, wide-in, wide-out}
 use borrow.Author.Needs.{needs}
 use Rattle.wide.proofs.wide_at.Statement.{statement}
 use Rattle.wide.proofs.wide_at.Tie as tie
-use Rattle.wide.proofs.wide_at.Reads as reads
-use Rattle.wide.proofs.wide_at.Lts as lts
-use Rattle.wide.proofs.eight.Reads as eight-reads
-use Rattle.wide.proofs.holds.Reads as holds-reads
-use Rattle.wide.proofs.wide_of.Reads as wide-of-reads
 
 holds-requires : tie.Need-holds-requires
 holds-requires c κs = search needs

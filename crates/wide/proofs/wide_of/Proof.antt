@@ -1,7 +1,7 @@
 -- `wide::wide_of`: the high limb's sign is the integer's.
 use mathlib.Core.Path.{ap, _∙_}
 use native.Mathlib.Omega.{arith}
-use lib.IntN.{ℤ, pos}
+use lib.IntN.{ℤ}
 use mir.Syntax.{w64}
 use mir.ValLaws.{toZ-ofZ}
 use Rattle.wide.specs.Value.{val, valueOf}
@@ -9,9 +9,6 @@ use Rattle.wide.proofs.Signs.{joined}
 use borrow.Author.Needs.{needs}
 use Rattle.wide.proofs.wide_of.Statement.{statement}
 use Rattle.wide.proofs.wide_of.Tie as tie
-use Rattle.wide.proofs.wide_of.Reads as reads
-use Rattle.wide.proofs.wide_of.Lts as lts
-use Rattle.wide.proofs.as_signed.Reads as as-signed-reads
 
 as-signed-requires : tie.Need-as-signed-requires
 as-signed-requires c κs = search needs

@@ -1,17 +1,11 @@
 -- `wide::with_sign`: only 2^127 has the limbs that are refused.
-use mathlib.Core.Path.{_≡_, sym, ap, _∙_}
 use mathlib.Core.Logic.{⊎-elim}
-use Prim.Native.Nat.{ℕ, _<_, _^_}
-use native.Mathlib.Omega.{arith}
+use Prim.Native.Nat.{_<_, _^_}
 use Rattle.wide.specs.Value.{val}
 use Rattle.wide.proofs.Minus.{refuses, negates, keeps, high-of, low-of}
 use borrow.Author.Needs.{needs}
 use Rattle.wide.proofs.with_sign.Statement.{statement}
 use Rattle.wide.proofs.with_sign.Tie as tie
-use Rattle.wide.proofs.with_sign.Reads as reads
-use Rattle.wide.proofs.with_sign.Lts as lts
-use Rattle.wide.proofs.negated.Reads as negated-reads
-use Rattle.wide.proofs.wide_of.Reads as wide-of-reads
 
 returns : tie.Need-returns
 unfolding val
