@@ -7,5 +7,6 @@ pub mod Heads
 pub mod Encoded
 pub mod Decoded
 pub mod Checking
+pub mod Answers
 pub mod Whole
 pub mod Cases

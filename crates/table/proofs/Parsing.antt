@@ -43,5 +43,10 @@ module _ (t : List ℕ) (at len : ℕ) (h6 : 6 ≤ length t - at) (e : len ≡ n
   pub settled : (kind : ℕ) → len ≤ length t - at → 6 ≤ len → kind ≡ numberIn 2 t (at + 4) → recordAt t at ≡ kindOf len kind (numberAt 4 t (at + 6))
   unfolding recordAt
   settled kind hl h f =
-      rw (within-is 4 t at len (omega arith) e, within-is 2 t (at + 4) kind (omega arith) f, le-ltb (length t - at) 6 h6,
-      le-ltb (length t - at) len hl, le-ltb len 6 h) refl
+      rw (
+        within-is 4 t at len (omega arith) e,
+        within-is 2 t (at + 4) kind (omega arith) f,
+        le-ltb (length t - at) 6 h6,
+        le-ltb (length t - at) len hl,
+        le-ltb len 6 h,
+      ) refl

@@ -9,6 +9,7 @@ use lib.ListN.{length, drop, length-append, drop-of-length-le}
 use lib.Dec.{ltb}
 use borrow.Author.Tests.{lt-ltb, le-ltb, ltb-false}
 use Rattle.refusals.specs.Numbers.{tableLimit, depthLimit, tooLong}
+use Rattle.lists.proofs.Choice.{true-false}
 use Rattle.wide.proofs.Numbers.{Bytes}
 use Rattle.table.specs.Trees.{Tree, Trees, none, more, Good, Goods, records, recordsOf}
 use Rattle.table.specs.Decoding.{Found, found, refused, andThen, treeAt, treesAt, tableOf}
@@ -110,3 +111,11 @@ sound w t xs q hb e = by (ltb tableLimit (length t)) refl e
           printable = h .4;
           small = ltb-false tableLimit (length t) f;
         }
+
+-- two files of good trees with one table are one
+pub one-file : (xs ys : Trees) → Goods xs depthLimit → Goods ys depthLimit → length (recordsOf xs) ≤ tableLimit → recordsOf xs ≡ recordsOf ys → xs ≡ ys
+one-file xs ys g k h e =
+    let l : length (recordsOf ys) ≤ tableLimit = rw (← e) h in
+    let f : found xs (length (recordsOf xs)) ≡ found ys (length (recordsOf ys)) =
+    sym (complete false xs g (λ z. true-false (sym z)) h) ∙ ap (tableOf false) e ∙ complete false ys k (λ z. true-false (sym z)) l in
+    cc

@@ -141,7 +141,6 @@ fn check_integer(t: &[u8], at: usize, printing: bool) -> Walked
 
 // The tree at `at`, with `depth` lists and bindings still to be opened; in a record 15, 13, 16, 17.
 fn check_tree(t: &[u8], at: usize, depth: usize, printing: bool) -> Walked
-    requires { ⌜ at ≤ length (now t) ⌝ }
     ensures { λ r. ⌜ r ≡ walkOf (treeAt (now (t .entry)) printing depth at) ⌝ }
 {
     let read = record_at(t, at);

@@ -101,7 +101,7 @@ check-tree-check-tree-requires : (t : ℕ) → check-tree-lts.Need-check-tree-re
 check-tree-check-tree-requires t c κs =
     let h = binding-in _ _ _ _ (c .before .before .before .before .before .before .record-at .ensures) (c .before .before .before .before .read2 .given .1) in
     let z = pos-of-ne-zero (c .before .before .if1 .left) in
-    (omega arith, omega arith)
+    (omega arith, tt)
 
 check-tree-returns-2 : (t : ℕ) → check-tree-lts.Need-returns-2 (check-tree-calls t) (check-tree-at t) check-tree.Post check-tree-Inv-loop check-tree-μ-loop
 check-tree-returns-2 t c =
@@ -155,9 +155,12 @@ check-tree-loop-less t c = search needs
 check-tree-loop-again : (t : ℕ) → check-tree-lts.Need-loop-again (check-tree-calls t) (check-tree-at t) check-tree.Post check-tree-Inv-loop check-tree-μ-loop
 check-tree-loop-again t c =
     let l = c .before .before .before .before .before .loop in
-    let h = walked-in _ _ _ _ _ _ (l .inv .1) (c .before .before .before .check-tree2 .ensures) (c .before .item2 .given .1) in
-    (omega arith, h .1, l .inv .2,
-    l .inv .3 ∙ item-past _ _ (l .i) (l .p) _ _ (c .before .before .before .before .loop-test .taken) (c .before .before .before .check-tree2 .ensures) (c .before .item2 .given .1))
+    let h = walked-in _ _ _ _ _ _ (l .inv .1) (c .before .before .before .check-tree2 .ensures) (c .before .item2 .given .1) in (
+      omega arith,
+      h .1,
+      l .inv .2,
+      l .inv .3 ∙ item-past _ _ (l .i) (l .p) _ _ (c .before .before .before .before .loop-test .taken) (c .before .before .before .check-tree2 .ensures) (c .before .item2 .given .1),
+    )
 
 check-tree-returns-5 : (t : ℕ) → check-tree-lts.Need-returns-5 (check-tree-calls t) (check-tree-at t) check-tree.Post check-tree-Inv-loop check-tree-μ-loop
 check-tree-returns-5 t c = at-bad _ _ _ _ _ (c .before .before .before .record-at .ensures) _ (c .before .enum-told .given .1) (c .stopped .ensures)

@@ -42,12 +42,12 @@ loop-less : tie.Need-loop-less Inv-loop μ-loop
 loop-less c = search needs
 
 loop-again : tie.Need-loop-again Inv-loop μ-loop
-loop-again c = 
+loop-again c =
     goes _ _ (c .before .before .before .loop-test .taken) (sym (c .before .is-sym-other-char .ensures) ∙ c .if3 .taken)
     ∙ c .before .before .before .before .loop .inv
 
 returns-2 : tie.Need-returns-2 Inv-loop μ-loop
-returns-2 c = 
+returns-2 c =
     stopped _ _ (c .before .before .before .loop-test .taken) (sym (c .before .is-sym-other-char .ensures) ∙ c .if3 .left)
     ∙ c .before .before .before .before .loop .inv
 

@@ -55,7 +55,7 @@ u32-at-requires-2 : tie.Need-u32-at-requires-2
 u32-at-requires-2 c κs = search needs
 
 returns-9 : tie.Need-returns-9
-returns-9 c = 
+returns-9 c =
     let a = c .before .before .before .before .before .before .before .before .before .before .before .before .before .args in
     let h : a .at + 6 + 4 ≤ length (a .t .now) = omega (arith, c .before .before .before .before .before .before .before .before .if3 .left, c .before .if10 .taken) in
     sym (settled _ _ _ (c .before .before .before .before .before .before .before .before .before .before .if2 .left) (c .before .before .before .before .before .before .before .before .before .u32-at .ensures) _ (c .before .before .before .before .before .before .before .before .if3 .left) (c .before .before .before .before .before .before .before .if4 .left) (c .before .before .before .before .before .before .u16-at .ensures) ∙ rw (c .before .before .if9 .taken, c .before .if10 .taken, within-is 4 _ _ _ h (c .u32-at2 .ensures)) refl)
@@ -64,7 +64,7 @@ returns-10 : tie.Need-returns-10
 returns-10 c = sym (settled _ _ _ (c .before .before .before .before .before .before .before .before .before .if2 .left) (c .before .before .before .before .before .before .before .before .u32-at .ensures) _ (c .before .before .before .before .before .before .before .if3 .left) (c .before .before .before .before .before .before .if4 .left) (c .before .before .before .before .before .u16-at .ensures) ∙ rw (c .before .if9 .taken, ne-eqb _ _ (c .if10 .left)) refl)
 
 returns-11 : tie.Need-returns-11
-returns-11 c = 
+returns-11 c =
     sym (settled _ _ _ (c .before .before .before .before .before .before .before .before .if2 .left) (c .before .before .before .before .before .before .before .u32-at .ensures) _ (c .before .before .before .before .before .before .if3 .left) (c .before .before .before .before .before .if4 .left) (c .before .before .before .before .u16-at .ensures)
     ∙ rw (ne-eqb _ _ (c .before .before .before .if5 .left), ne-eqb _ _ (c .before .before .if6 .left), ne-eqb _ _ (c .before .if8 .left), ne-eqb _ _ (c .if9 .left)) refl)
 
