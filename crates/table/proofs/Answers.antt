@@ -1,9 +1,8 @@
 -- Two answers of the check that mean the same are the same. Assumes nothing.
 use mathlib.Core.Path.{_≡_, refl}
 use Prim.Native.Nat.{ℕ}
-use native.Mathlib.Omega.{arith}
 use Rattle.refusals.specs.declared.Refusal.{Refusal}
-use Rattle.table.specs.Decoding.{Verdict, good, bad, verdictOf}
+use Rattle.table.specs.Decoding.{verdictOf}
 use Rattle.table.specs.declared.Checked.{Checked}
 use Rattle.table.specs.declared.Checked.the-variants as checked
 

@@ -10,9 +10,9 @@ use lib.Dec.{ltb}
 use borrow.Author.Tests.{lt-ltb, le-ltb}
 use Rattle.refusals.specs.declared.Refusal.{Refusal}
 use Rattle.refusals.specs.Numbers.{tableLimit, depthLimit, tooLong, tooDeep, badRecord, badSymbol, lowest}
-use Rattle.table.specs.Trees.{Tree, Trees, binding, list, none, more, isSymbol}
+use Rattle.table.specs.Trees.{Tree, Trees, binding, list, more, isSymbol}
 use Rattle.table.specs.Records.{Record, Symbol, Integer, Binding, ListOf, Bad, recordAt, payload}
-use Rattle.table.specs.Decoding.{Found, found, refused, andThen, itemsAt, isLowest, ofRecord, treeAt, treesAt, tableOf, Verdict, good, bad, judged, verdictOf}
+use Rattle.table.specs.Decoding.{Found, found, refused, andThen, itemsAt, isLowest, ofRecord, treeAt, treesAt, tableOf, Verdict, good, bad, judged}
 use Rattle.table.specs.Walking.{Walked, Past, Stopped, walkOf}
 use Rattle.table.proofs.Reading.{Ends, tree-end, tree-of}
 

@@ -5,14 +5,13 @@ use mathlib.Core.List.{List, _++_}
 use Prim.Native.Nat.{ℕ, zero, suc, _+_, _-_, _^_, _≤_, _<_}
 use native.Mathlib.Omega.{arith}
 use lib.ListN.{length, take, drop, length-append}
-use lib.IntN.{ℤ}
 use mir.Syntax.{w128}
 use mir.Val.{toZ}
 use Rattle.refusals.specs.Numbers.{tooDeep}
 use Rattle.lists.proofs.Choice.{pick, true-false}
-use Rattle.wide.specs.Bytes.{le, number, numberAt, wideBytes, integerAt}
+use Rattle.wide.specs.Bytes.{le, number, numberAt, wideBytes}
 use Rattle.wide.proofs.Numbers.{Bytes, bytes-part, le-length, le-number-of, number-lt, wide-length, bytes-back}
-use Rattle.table.specs.Trees.{Tree, Trees, symbol, integer, binding, list, none, more, count, isSymbol, Good, Goods, record-of, records, recordsOf}
+use Rattle.table.specs.Trees.{Tree, Trees, binding, list, more, count, isSymbol, Good, Goods, record-of, records, recordsOf}
 use Rattle.table.specs.Records.{Record, Symbol, Integer, Binding, ListOf, Bad, recordAt, payload}
 use Rattle.table.specs.Decoding.{Found, found, refused, andThen, itemsAt, isLowest, ofRecord, treeAt}
 use Rattle.table.specs.Printable.{Printable, Printables}

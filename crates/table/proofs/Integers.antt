@@ -1,11 +1,10 @@
 -- The integers of a table: those in range have 128 bits of their own, and -2^127 has the bits 2^127. Assumes nothing.
 use mathlib.Core.Path.{_≡_, refl, ap, sym, _∙_}
 use mathlib.Core.Bool.{Bool, true, false, _&&_}
-use Prim.Native.Nat.{ℕ, suc, _+_, _*_, _-_, _^_, _<_}
+use Prim.Native.Nat.{ℕ, suc, _*_, _-_, _^_, _<_}
 use native.Mathlib.Omega.{arith}
-use lib.Dec.{eqb}
+use lib.Dec.{eqb, lit<}
 use lib.IntN.{ℤ, pos, negsuc}
-use lib.Dec.{lit<}
 use mir.Syntax.{w64, w128}
 use mir.Val.{toZ, ofZ, SFits}
 use mir.ValLaws.{ofZ-toZ, toZ-ofZ, toZ-fits}

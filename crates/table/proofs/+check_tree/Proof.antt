@@ -1,4 +1,4 @@
--- One tree: the depth still allowed falls at each call of itself; the items of a list are a loop.
+-- `table::check_tree`: the items that are left of a list decide. The measure is the depth still allowed, which falls at each call of itself.
 use mathlib.Core.Path.{_≡_, sym, _∙_}
 use Prim.Native.Nat.{ℕ, _-_, _≤_, _<_}
 use native.Mathlib.Nat.{pos-of-ne-zero}

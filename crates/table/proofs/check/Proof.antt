@@ -1,3 +1,4 @@
+-- `table::check`: what is left of the table decides the verdict. The measure is the bytes left.
 use Prim.Native.Nat.{_-_, _≤_}
 use native.Mathlib.Omega.{arith}
 use borrow.Author.Needs.{needs}

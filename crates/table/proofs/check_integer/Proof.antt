@@ -1,3 +1,4 @@
+-- `table::check_integer`: 17 where printing and -2^127 meet.
 use borrow.Author.Needs.{needs}
 use Rattle.table.proofs.Checking.{integer-past, integer-stop}
 use Rattle.table.proofs.check_integer.Statement.{statement}

@@ -1,3 +1,4 @@
+-- `table::check_symbol`: the payload decides.
 use borrow.Author.Needs.{needs}
 use Rattle.table.proofs.Checking.{symbol-past, symbol-stop}
 use Rattle.table.proofs.check_symbol.Statement.{statement}

@@ -1,4 +1,5 @@
-use mathlib.Core.Path.{_≡_, refl, ap, sym, _∙_}
+-- `table::is_lowest`: two limbs and 128 bits name -2^127 alike.
+use mathlib.Core.Path.{_≡_, refl, _∙_}
 use Prim.Native.Nat.{ℕ, _+_, _^_, _≤_, _<_}
 use native.Mathlib.Omega.{arith}
 use borrow.Author.Needs.{needs}

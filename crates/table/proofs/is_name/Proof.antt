@@ -1,4 +1,5 @@
-use mathlib.Core.Path.{_≡_, ap, _∙_}
+-- `table::is_name`: the part lent on is the record's payload.
+use mathlib.Core.Path.{ap, _∙_}
 use borrow.Author.Needs.{needs}
 use Rattle.table.specs.Trees.{isSymbol}
 use Rattle.table.proofs.Checking.{part}

@@ -1,3 +1,4 @@
+-- `table::is_symbol`: what is left of the bytes decides. The measure is the bytes left.
 use mathlib.Core.Path.{_≡_, sym, _∙_}
 use Prim.Native.Nat.{_-_}
 use borrow.Author.Needs.{needs}
