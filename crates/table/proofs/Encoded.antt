@@ -2,25 +2,24 @@
 use mathlib.Core.Path.{_≡_, refl, ap, sym, subst, _∙_}
 use mathlib.Core.Bool.{Bool, true}
 use mathlib.Core.List.{List, _++_}
-use Prim.Native.Nat.{ℕ, suc, _+_, _-_, _^_, _≤_, _<_}
+use Prim.Native.Nat.{ℕ, suc, _+_, _-_, _≤_}
 use native.Mathlib.Omega.{arith}
 use lib.ListN.{length, length-append}
 use lib.Dec.{lit<}
-use lib.IntN.{ℤ}
 use mir.Syntax.{w128}
-use mir.Val.{toZ, ofZ}
+use mir.Val.{ofZ}
 use mir.ValLaws.{ofZ-fits, toZ-ofZ}
 use borrow.Author.Tests.{lt-ltb}
 use Rattle.wide.specs.Bytes.{le, numberAt, wideBytes}
 use Rattle.wide.proofs.Numbers.{le-length, number-le, wide-length}
 use Rattle.table.specs.Trees.{Tree, Trees, symbol, integer, binding, list, none, more, count, Good, Goods, record-of, records, recordsOf}
-use Rattle.table.specs.Records.{Record, Symbol, Integer, Binding, ListOf}
-use Rattle.table.specs.Decoding.{Found, found, refused, itemsAt, treeAt}
+use Rattle.table.specs.Records.{Symbol, Integer, Binding, ListOf}
+use Rattle.table.specs.Decoding.{Found, found, itemsAt, treeAt}
 use Rattle.table.specs.Printable.{Printable, Printables}
 use Rattle.table.proofs.Integers.{fits-range, spared}
 use Rattle.table.proofs.Stands.{Stands, stands-left, stands-right, stands-length}
 use Rattle.table.proofs.Reading.{tree-of}
-use Rattle.table.proofs.Heads.{length-record, Head, head, symbol-read, binding-read, integer-read, list-read, name-read, integer-head, list-head, bits-read}
+use Rattle.table.proofs.Heads.{length-record, head, symbol-read, binding-read, integer-read, list-read, name-read, integer-head, list-head, bits-read}
 
 past-record : (kind p : ℕ) (a b : List ℕ) → p + (length a + 6) + length b ≡ p + length (record-of kind a ++ b)
 past-record kind p a b = simp (length-append, length-record) (omega arith)

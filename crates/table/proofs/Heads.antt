@@ -1,9 +1,9 @@
 -- A record that stands at a place is read back. Assumes nothing.
-use mathlib.Core.Path.{_≡_, refl, ap, sym, subst, _∙_}
+use mathlib.Core.Path.{_≡_, ap, subst, _∙_}
 use mathlib.Core.List.{List, _++_}
 use Prim.Native.Nat.{ℕ, _+_, _-_, _^_, _≤_, _<_}
 use native.Mathlib.Omega.{arith}
-use lib.ListN.{length, take, drop, length-append}
+use lib.ListN.{length, length-append}
 use lib.Dec.{lit<}
 use lib.IntN.{ℤ}
 use mir.Syntax.{w128}
@@ -12,7 +12,7 @@ use borrow.Author.Tests.{le-ltb}
 use Rattle.wide.specs.Bytes.{le, number, numberAt, wideBytes, integerAt}
 use Rattle.wide.proofs.Numbers.{le-length, number-le, wide-length, wide-back}
 use Rattle.table.specs.Trees.{Tree, Trees, symbol, integer, binding, list, none, more, count, InRange, Good, Goods, record-of, records, recordsOf}
-use Rattle.table.specs.Records.{Record, Symbol, Integer, Binding, ListOf, Bad, recordAt, payload}
+use Rattle.table.specs.Records.{Record, Symbol, Integer, Binding, ListOf, recordAt, payload}
 use Rattle.table.proofs.Integers.{fits-range}
 use Rattle.table.proofs.Stands.{Stands, stands-left, stands-right, stands-take, stands-length}
 

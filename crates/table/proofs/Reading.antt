@@ -1,16 +1,16 @@
 -- What a record that was read says of the table's bytes, and where a tree ends. Assumes nothing.
 use mathlib.Core.Path.{_≡_, refl, ap, sym, subst, _∙_}
-use mathlib.Core.Bool.{Bool, true, false, cond, _&&_}
+use mathlib.Core.Bool.{Bool, true, false, _&&_}
 use mathlib.Core.List.{List}
-use Prim.Native.Nat.{ℕ, zero, suc, _+_, _-_, _≤_, _<_}
+use Prim.Native.Nat.{ℕ, zero, suc, _+_, _-_, _≤_}
 use native.Mathlib.Omega.{arith}
 use lib.ListN.{length}
 use lib.Dec.{ltb, eqb}
 use borrow.Author.Tests.{lt-ltb, ltb-false, eqb-true}
-use Rattle.refusals.specs.Numbers.{tooDeep, badRecord, badSymbol, lowest}
+use Rattle.refusals.specs.Numbers.{tooDeep}
 use Rattle.lists.proofs.Choice.{pick}
-use Rattle.wide.specs.Bytes.{numberAt, integerAt}
-use Rattle.table.specs.Trees.{Tree, Trees, symbol, integer, binding, list, more, isSymbol}
+use Rattle.wide.specs.Bytes.{numberAt}
+use Rattle.table.specs.Trees.{Tree, Trees, binding, list, more, isSymbol}
 use Rattle.table.specs.Records.{Record, Symbol, Integer, Binding, ListOf, Bad, recordOf, recordAt, payload}
 use Rattle.table.specs.Decoding.{Found, found, refused, andThen, itemsAt, isLowest, ofRecord, treeAt}
 

@@ -1,6 +1,6 @@
 -- Trees that can be printed: no spelling with a minus sign reads as -2^127 (document 01, 'Order').
 use mathlib.Core.Path.{_≡_}
-use Prim.Native.Nat.{ℕ, _-_, _^_}
+use Prim.Native.Nat.{_-_, _^_}
 use lib.IntN.{ℤ, negsuc}
 use Rattle.table.specs.Trees.{Tree, Trees, symbol, integer, binding, list, none, more}
 
