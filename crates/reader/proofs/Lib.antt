@@ -8,3 +8,5 @@ pub mod Arms
 pub mod Written
 pub mod Rooms
 pub mod Files
+pub mod Good
+pub mod Speech
