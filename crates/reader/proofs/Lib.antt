@@ -10,3 +10,6 @@ pub mod Rooms
 pub mod Files
 pub mod Good
 pub mod Speech
+pub mod Accepts
+pub mod Wrong
+pub mod Same
