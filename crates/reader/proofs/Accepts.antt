@@ -24,6 +24,7 @@ use Rattle.reader.proofs.Speech.{speech, speech-all, speech-end, speech
 -- good trees are nested so
 mutual
   unfolding Nested Good
+
   pub good-nested : (x : Tree) (d : ℕ) → Good x d → Nested x d
   good-nested (symbolTree n) d g = tt
   good-nested (integer z) d g = tt
@@ -169,13 +170,14 @@ closed-list s d t xs k e h w =
     let c = heard s (w .next) close-paren k (w .lexes) (w .rest) in
     let u = c .token in
     let last : readItems (readTree s (d - 1)) (suc (w .left)) (w .next) ≡ upTo none u =
-        ap (λ (y : One). andThen y (readItems (readTree s (d - 1)) (w .left)))
-        (ap (readTree s (d - 1)) (c .is-it) ∙ read-rparen s (d - 1) u (heard-kind c)) in
+    ap (λ (y : One). andThen y (readItems (readTree s (d - 1)) (w .left)))
+    (ap (readTree s (d - 1)) (c .is-it) ∙ read-rparen s (d - 1) u (heard-kind c)) in
     let all : readItems (readTree s (d - 1)) (suc (length s)) (after s t) ≡ upTo xs u = w .reads ∙ ap (onto xs) last ∙ onto-close xs u in
     record { next = after s u; reads = read-list s d t e (λ z. omega arith) ∙ ap (listed s t) all; rest = c .rest }
 
 mutual
   unfolding spoken Nested onto
+
   accept : (x : Tree) (s : List ℕ) (d : ℕ) (a : Answer) (k : Said) → Nested x d → NoAt k → Lexes s a → speech s a ≡ spoken x k → Accepted s d a x k
   accept (symbolTree n) s d a k g f h e =
       let c = heard s a (name n) k h e in
@@ -184,7 +186,7 @@ mutual
       record {
         next = after s t;
         reads = ap (readTree s d) (c .is-it) ∙ read-name s d t (w .0) (sign-other s (after s t) k (next-of s t) (c .rest) f)
-        ∙ ap (λ (m : List ℕ). got (symbolTree m) (after s t)) (w .1);
+            ∙ ap (λ (m : List ℕ). got (symbolTree m) (after s t)) (w .1);
         rest = c .rest;
       }
   accept (integer z) s d a k g f h e =
@@ -201,7 +203,7 @@ mutual
       record {
         next = r .next;
         reads = ap (readTree s d) (c .is-it) ∙ read-bind s d t (past u) (w .0) sign (λ z. omega (arith, g .0)) ∙ ap (bound s (nameOf s t)) (r .reads)
-        ∙ ap (λ (m : List ℕ). got (binding m x) (r .next)) (w .1);
+            ∙ ap (λ (m : List ℕ). got (binding m x) (r .next)) (w .1);
         rest = r .rest;
       }
   accept (list xs) s d a k g f h e =
@@ -231,6 +233,6 @@ unfolding fileOf readItems
 read-accepts s xs g e =
     let w = accept-all xs s depthLimit (length s) (nextToken s 0) the-end g tt (first-of s) (omega arith) (sym (speech-all s) ∙ e) in
     let last : readItems (readTree s depthLimit) (suc (w .left)) (w .next) ≡ toEnd none =
-        ap (λ (y : One). andThen y (readItems (readTree s depthLimit) (w .left)))
-        (ap (readTree s depthLimit) (ended-heard s (w .next) (w .lexes) (w .rest)) ∙ read-end s depthLimit) in
+    ap (λ (y : One). andThen y (readItems (readTree s depthLimit) (w .left)))
+    (ap (readTree s depthLimit) (ended-heard s (w .next) (w .lexes) (w .rest)) ∙ read-end s depthLimit) in
     ap whole (w .reads ∙ ap (onto xs) last ∙ onto-end xs)

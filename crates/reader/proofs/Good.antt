@@ -89,15 +89,19 @@ name-small s t h =
 
 mutual
   unfolding Derives Good
+
   good : (x : Tree) (s : List ℕ) (d : ℕ) (a b : Answer) → Lexes s a → Derives x s d a b → Good x d
   good (symbolTree n) s d a b h w =
       let l = subst (Lexes s) (w .1) h in
       (ap isSymbol (w .3) ∙ symbol-good s (w .0) l (w .2), subst⁻¹ (λ (m : List ℕ). length m + 6 < 2 ^ 32) (w .3) (name-small s (w .0) l))
   good (integer z) s d a b h w = integer-good s (w .0) z (subst (Lexes s) (w .1) h) (w .2)
   good (binding n x) s d a b h w =
-      let l = subst (Lexes s) (w .2) h in
-      (w .7, ap isSymbol (w .4) ∙ symbol-good s (w .0) l (w .3), subst⁻¹ (λ (m : List ℕ). length m + 6 < 2 ^ 32) (w .4) (name-small s (w .0) l),
-      good x s (d - 1) (after s (w .1)) b (next-of s (w .1)) (w .8))
+      let l = subst (Lexes s) (w .2) h in (
+        w .7,
+        ap isSymbol (w .4) ∙ symbol-good s (w .0) l (w .3),
+        subst⁻¹ (λ (m : List ℕ). length m + 6 < 2 ^ 32) (w .4) (name-small s (w .0) l),
+        good x s (d - 1) (after s (w .1)) b (next-of s (w .1)) (w .8),
+      )
   good (list xs) s d a b h w =
       let q = spans-all xs s (d - 1) (after s (w .0)) (is (w .1)) (next-of s (w .0)) (w .5) in
       let r = q .lexes in
@@ -138,7 +142,7 @@ file-short s xs e = by (ltb sourceLimit (length s)) refl
     by false f = ltb-false sourceLimit (length s) f
     by true f =
         let a : nextToken s 0 ≡ refused tooLong sourceLimit =
-            ap (λ (b : Bool). cond b (refused tooLong sourceLimit) (cond (ltb (length s) 0) (refused pastSource (length s)) (lexAt s 0))) f in
+        ap (λ (b : Bool). cond b (refused tooLong sourceLimit) (cond (ltb (length s) 0) (refused pastSource (length s)) (lexAt s 0))) f in
         let r : readTree s depthLimit (nextToken s 0) ≡ no tooLong sourceLimit = ap (readTree s depthLimit) a ∙ read-refused s depthLimit tooLong sourceLimit in
         let g : refusal tooLong sourceLimit ≡ file xs = sym (ap (λ (x : One). whole (andThen x (readItems (readTree s depthLimit) (length s)))) r) ∙ e in
         let z : _≡_ {A = ℕ} 0 1 = cc in absurd (omega arith)

@@ -76,6 +76,7 @@ kind-said s t k h e = speech-token s t h ∙ ap (λ (k : Kind). says (itemOf s (
 
 mutual
   unfolding Derives spoken
+
   tree-said : (x : Tree) (s : List ℕ) (d : ℕ) (a b : Answer) → Lexes s a → Derives x s d a b → speech s a ≡ spoken x (speech s b)
   tree-said (symbolTree n) s d a b h w =
       ap (speech s) (w .1) ∙ kind-said s (w .0) symbol (subst (Lexes s) (w .1) h) (w .2)
