@@ -32,7 +32,7 @@ pub record Further (s : List ℕ) (a b : Answer) : Type 0 where
   pub small : length s ≤ sourceLimit
   pub past-small : pastOf b ≤ sourceLimit
 
-further : (s : List ℕ) (t : Token) → Lexes s (is t) → Further s (is t) (after s t)
+pub further : (s : List ℕ) (t : Token) → Lexes s (is t) → Further s (is t) (after s t)
 further s t h =
     let o = onward s t h in
     record {

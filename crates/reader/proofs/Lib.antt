@@ -5,6 +5,7 @@ pub mod Bounds
 pub mod Trees
 pub mod Sized
 pub mod Arms
+pub mod Glances
 pub mod Written
 pub mod Rooms
 pub mod Files

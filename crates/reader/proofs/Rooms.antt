@@ -16,15 +16,16 @@ use Rattle.lexer.specs.declared.Token.{Token as CodeToken}
 use Rattle.lexer.specs.declared.Token.the-variants as code
 use Rattle.lexer.specs.declared.Lexed.{Lexed}
 use Rattle.lexer.specs.declared.Lexed.the-variants as lexed
-use Rattle.lexer.specs.Tokens.{Token, Answer, tokenOf, answerOf}
+use Rattle.lexer.specs.Tokens.{lparen, symbol, Token, token, Answer, is, tokenOf, answerOf}
 use Rattle.lexer.specs.Lexing.{nextToken}
 use Rattle.table.specs.Trees.{Tree, Trees, symbol as symbolTree, integer, binding, list, count, record-of, records, recordsOf}
 use Rattle.table.proofs.Heads.{length-record}
 use Rattle.reader.specs.Grammar.{One, got, closed, ended, no, Many, upTo, toEnd, none-of, nameOf, readItems, listed, bound, readTree}
-use Rattle.reader.specs.Sizes.{Sizes, sizesOf, countOf, recordsIn, allRecordsIn, signOf, Lexes, Room, Rooms}
+use Rattle.reader.specs.Sizes.{Sizes, sizesOf, countOf, recordsIn, allRecordsIn, listRecordsIn, signOf, Lexes, Room, Rooms, ListRoom}
 use Rattle.reader.specs.declared.Sign.{Sign}
-use Rattle.reader.specs.declared.Sign.the-variants.{At}
-use Rattle.reader.proofs.Arms.{hand-name, list-read, bind-read}
+use Rattle.reader.specs.declared.Sign.the-variants.{At, Other}
+use Rattle.reader.proofs.Arms.{hand-name, bind-read}
+use Rattle.reader.proofs.Glances.{name-seen, name-seen-length, list-seen}
 use Rattle.reader.proofs.Sized.{integer-size, symbol-size}
 
 -- nothing is written
@@ -97,21 +98,24 @@ binding-written {x} s n j y b₀ b ys l e r eb ey =
 
 -- ---- a list
 
-listed-room : (s : List ℕ) (t : Token) (k : ℕ) (y : Many) → Room (listed s t y) k → (10 ≤ k) × Rooms y (k - 10)
+listed-room : (s : List ℕ) (t : Token) (k : ℕ) (y : Many) → Room (listed s t y) k → ListRoom y k
 unfolding records
 listed-room s t k (upTo xs u) r =
     let g : length (record-of 4 (le 4 (count xs)) ++ recordsOf xs) ≡ 10 + length (recordsOf xs) =
-    simp (length-append, length-record, le-length) (omega arith) in
+        simp (length-append, length-record, le-length) (omega arith) in
     (omega arith, omega arith)
 listed-room s t k (toEnd xs) r = absurd r
 listed-room s t k (none-of m p) r = absurd r
 
-list-room : {x : One} (s : List ℕ) (t : Token) (k : ℕ) (y : Many) → x ≡ listed s t y → Room x k → (10 ≤ k) × Rooms y (k - 10)
-list-room s t k y e r = listed-room s t k y (subst (λ (z : One). Room z k) e r)
+listed-records : (s : List ℕ) (t : Token) (k : ℕ) (y : Many) → Room (listed s t y) k → recordsIn (listed s t y) ≡ listRecordsIn y
+unfolding records
+listed-records s t k (upTo xs u) r = refl
+listed-records s t k (toEnd xs) r = absurd r
+listed-records s t k (none-of m p) r = absurd r
 
-list-part : {x : One} (s : List ℕ) (t : Token) (y : Many) (b : List ℕ) → x ≡ listed s t y → Room x (length b)
-    → Rooms y (length (take (length b - 10) (drop 10 b)))
-list-part s t y b e r = subst⁻¹ (Rooms y) (part-length 10 b) (list-room s t (length b) y e r .1)
+-- there is room for the items behind the list's own record
+pub list-part : (y : Many) (b : List ℕ) → ListRoom y (length b) → Rooms y (length (take (length b - 10) (drop 10 b)))
+list-part y b r = subst⁻¹ (Rooms y) (part-length 10 b) (r .1)
 
 -- the items were written from the tenth byte on, and then the list's own record in front of them
 front : (h e b ys b′ : List ℕ) (w : ℕ) → length h ≡ w → w ≤ length b → ys ≡ over e (take (length b - w) (drop w b))
@@ -124,40 +128,40 @@ front h e b ys b′ w eh le ey eb =
     eb ∙ ap (λ (j : ℕ). h ++ drop j (putMid w (length b - w) b ys)) eh ∙ ap (λ (r : List ℕ). h ++ r) (tail ∙ ys′)
     ∙ simp (append-assoc, length-append, eh)
 
-list-written : {x : One} (s : List ℕ) (t : Token) (y : Many) (m : Sizes) (n : ℕ) (b ys b′ : List ℕ) → x ≡ listed s t y → Room x (length b)
-    → m ≡ sizesOf y → n ≡ countOf m → ys ≡ over (allRecordsIn y) (take (length b - 10) (drop 10 b))
-    → b′ ≡ over (record-of 4 (le 4 n)) (putMid 10 (length b - 10) b ys) → b′ ≡ over (recordsIn x) b
-unfolding records
-list-written {x} s t y m n b ys b′ e r em en ey eb =
-    by y (subst (λ (z : One). Room z (length b)) e r) (list-room s t (length b) y e r .0) (en ∙ ap countOf em) ey
-    ∙ sym (ap (λ (z : One). over (recordsIn z) b) e)
-  where
-    by : (y : Many) → Room (listed s t y) (length b) → 10 ≤ length b → n ≡ countOf (sizesOf y)
-        → ys ≡ over (allRecordsIn y) (take (length b - 10) (drop 10 b)) → b′ ≡ over (recordsIn (listed s t y)) b
-    by (upTo xs u) r h en ey =
-        front (record-of 4 (le 4 (count xs))) (recordsOf xs) b ys b′ 10 (length-record 4 (le 4 (count xs)) ∙ ap (λ (k : ℕ). k + 6) (le-length 4 (count xs))) h ey
-        (eb ∙ ap (λ (j : ℕ). over (record-of 4 (le 4 j)) (putMid 10 (length b - 10) b ys)) en)
-    by (toEnd xs) r h en ey = absurd r
-    by (none-of p q) r h en ey = absurd r
+pub list-front : (y : Many) (m : Sizes) (n : ℕ) (b ys b′ : List ℕ) → ListRoom y (length b) → m ≡ sizesOf y → n ≡ countOf m
+    → ys ≡ over (allRecordsIn y) (take (length b - 10) (drop 10 b)) → b′ ≡ over (record-of 4 (le 4 n)) (putMid 10 (length b - 10) b ys)
+    → b′ ≡ over (listRecordsIn y) b
+list-front y m n b ys b′ r em en ey eb =
+    front (record-of 4 (le 4 (countOf (sizesOf y)))) (allRecordsIn y) b ys b′ 10
+    (length-record 4 (le 4 (countOf (sizesOf y))) ∙ ap (λ (k : ℕ). k + 6) (le-length 4 (countOf (sizesOf y)))) (r .0) ey
+    (eb ∙ ap (λ (j : ℕ). over (record-of 4 (le 4 j)) (putMid 10 (length b - 10) b ys)) (en ∙ ap countOf em))
 
 -- ---- the same at the terms that the code has, so that a caller need not write them
 
+module _ (s : List ℕ) (d : ℕ) (a : Answer) (p : ℕ) where
+  -- a symbol that was seen at a glance
+  module _ (n : ℕ) (b : Answer) (h : Lexes s a) (e : a ≡ is (token symbol p n)) (g : b ≡ nextToken s (p + n)) (o : signOf b ≡ Other) where
+    pub name-room : (k : ℕ) → Room (readTree s d a) k → n + 6 ≤ k
+    name-room k r = symbol-room (nameOf s (token symbol p n)) n k (name-seen-length s d a p n e h) (name-seen s d a p n b e g o) r
+
+    pub name-written : (c c′ : List ℕ) → c′ ≡ over (record-of 1 (take n (drop p s))) c → c′ ≡ over (recordsIn (readTree s d a)) c
+    name-written c c′ k = symbol-written (nameOf s (token symbol p n)) c c′ (name-seen s d a p n b e g o) k
+
+  -- a list
+  module _ (b : Answer) (e : a ≡ is (token lparen p 1)) (h : d ≡ 0 → ⊥) (g : b ≡ nextToken s (p + 1)) where
+    pub paren-room : (k : ℕ) → Room (readTree s d a) k → ListRoom (readItems (readTree s (d - 1)) (suc (length s)) b) k
+    paren-room k r =
+        listed-room s (token lparen p 1) k (readItems (readTree s (d - 1)) (suc (length s)) b)
+        (subst (λ (z : One). Room z k) (list-seen s d a p b e h g) r)
+
+    pub paren-written : (c c′ : List ℕ) → Room (readTree s d a) (length c)
+        → c′ ≡ over (listRecordsIn (readItems (readTree s (d - 1)) (suc (length s)) b)) c → c′ ≡ over (recordsIn (readTree s d a)) c
+    paren-written c c′ r k =
+        let z = list-seen s d a p b e h g in
+        k ∙ sym (ap (λ (o : List ℕ). over o c) (ap recordsIn z ∙ listed-records s (token lparen p 1) (length c)
+        (readItems (readTree s (d - 1)) (suc (length s)) b) (subst (λ (y : One). Room y (length c)) z r)))
+
 module _ (s : List ℕ) (x : Lexed) (c : CodeToken) (p d : ℕ) (e : x ≡ lexed.Token c p) where
-  module _ (b : Answer) (f : c ≡ code.LParen) (h : d ≡ 0 → ⊥) (g : b ≡ nextToken s (p + 1)) where
-    pub paren-room : (k : ℕ) → Room (readTree s d (answerOf x)) k → 10 ≤ k
-    paren-room k r = list-room s (tokenOf code.LParen p) k (readItems (readTree s (d - 1)) (suc (length s)) b) (list-read s x c p d e b f h g) r .0
-
-    pub paren-part : (a : List ℕ) → Room (readTree s d (answerOf x)) (length a)
-        → Rooms (readItems (readTree s (d - 1)) (suc (length s)) b) (length (take (length a - 10) (drop 10 a)))
-    paren-part a r = list-part s (tokenOf code.LParen p) (readItems (readTree s (d - 1)) (suc (length s)) b) a (list-read s x c p d e b f h g) r
-
-    pub paren-written : (m : Sizes) (n : ℕ) (a ys a′ : List ℕ) → Room (readTree s d (answerOf x)) (length a)
-        → m ≡ sizesOf (readItems (readTree s (d - 1)) (suc (length s)) b) → n ≡ countOf m
-        → ys ≡ over (allRecordsIn (readItems (readTree s (d - 1)) (suc (length s)) b)) (take (length a - 10) (drop 10 a))
-        → a′ ≡ over (record-of 4 (le 4 n)) (putMid 10 (length a - 10) a ys) → a′ ≡ over (recordsIn (readTree s d (answerOf x))) a
-    paren-written m n a ys a′ r em en ey ea =
-        list-written s (tokenOf code.LParen p) (readItems (readTree s (d - 1)) (suc (length s)) b) m n a ys a′ (list-read s x c p d e b f h g) r em en ey ea
-
   module _ (n q : ℕ) (b v : Answer) (g : Sign) (l : Lexes s (answerOf x)) (f : c ≡ code.Symbol n) (k : b ≡ nextToken s (p + n)) (eg : g ≡ signOf b)
       (eq : g ≡ At q) (h : d ≡ 0 → ⊥) (ev : v ≡ nextToken s q) where
     pub bind-room : (j : ℕ) → Room (readTree s d (answerOf x)) j → n + 6 ≤ j

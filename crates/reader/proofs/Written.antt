@@ -106,3 +106,22 @@ items-end f l n a x h e g = rw (one-more l n h) (none-left (f a) (readItems f (s
 pub ended-left : {whole rest : Many} {b₀ b b′ : List ℕ} {size n : ℕ} (h : Left whole rest b₀ b size) (o′ : List ℕ)
     → Wrote (h .o ++ o′) b₀ b′ n → allRecordsIn rest ≡ [] → o′ ≡ [] → b′ ≡ over (allRecordsIn whole) b₀
 ended-left {b₀ = b₀} h o′ w e e′ = w .holds ∙ ap (λ (z : List ℕ). over z b₀) (ap (λ (z : List ℕ). h .o ++ z) (e′ ∙ sym e) ∙ sym (h .both))
+
+-- nothing more was written
+pub closed-left : {whole rest : Many} {b₀ b : List ℕ} {size : ℕ} → Left whole rest b₀ b size → allRecordsIn rest ≡ [] → b ≡ over (allRecordsIn whole) b₀
+closed-left {b₀ = b₀} h e =
+    h .wrote .holds ∙ ap (λ (z : List ℕ). over z b₀) (sym (append-nil (h .o)) ∙ ap (λ (z : List ℕ). h .o ++ z) (sym e) ∙ sym (h .both))
+
+-- where there is room, no refusal is met
+refused-room : (x : One) (rest : Answer → Many) (k m p : ℕ) → Rooms (andThen x rest) k → sizeOf x ≡ not m p → ⊥
+refused-room (got x a) rest k m p r e = let z : _≡_ {A = ℕ} 0 1 = cc in omega arith
+refused-room (closed t) rest k m p r e = let z : _≡_ {A = ℕ} 0 1 = cc in omega arith
+refused-room ended rest k m p r e = let z : _≡_ {A = ℕ} 0 1 = cc in omega arith
+refused-room (no n q) rest k m p r e = r
+
+pub not-refused : {whole : Many} {b₀ b : List ℕ} {size : ℕ} (f : Answer → One) (l n m p : ℕ) (a : Answer) → Left whole (readItems f (suc l - n) a) b₀ b size
+    → n ≤ l → sizeOf (f a) ≡ not m p → ⊥
+unfolding readItems
+not-refused {b₀ = b₀} {size = size} f l n m p a h le e =
+    refused-room (f a) (readItems f (suc l - (n + 1))) (length b₀ - size) m p
+    (subst (λ (j : ℕ). Rooms (readItems f j a) (length b₀ - size)) (one-more l n le) (h .room)) e

@@ -1,12 +1,13 @@
 -- What the two passes answer, sizes in place of trees, and what the second one may count on: the token at hand is the lexer's, and there is room.
-use Prim.Native.Nat.{ℕ, _+_, _*_, _≤_}
+use Prim.Native.Nat.{ℕ, _+_, _-_, _≤_}
 use mathlib.Core.Path.{_≡_}
-use mathlib.Core.List.{List, []}
+use mathlib.Core.List.{List, [], _++_}
 use lib.ListN.{length}
 use Rattle.refusals.specs.Numbers.{sourceLimit, tableLimit, listOpen, noTree}
-use Rattle.lexer.specs.Tokens.{past, Answer, end, is, refused, answerOf}
+use Rattle.lexer.specs.Tokens.{lparen, rparen, symbol, token, past, Answer, end, is, refused, answerOf}
 use Rattle.lexer.specs.Lexing.{nextToken}
-use Rattle.table.specs.Trees.{count, records, recordsOf}
+use Rattle.wide.specs.Bytes.{le}
+use Rattle.table.specs.Trees.{count, record-of, records, recordsOf}
 use Rattle.reader.specs.Grammar.{One, got, closed, ended, no, Many, upTo, toEnd, none-of, ifAt}
 use Rattle.reader.specs.declared.OneRead.{OneRead}
 use Rattle.reader.specs.declared.OneRead.the-variants as one
@@ -14,6 +15,8 @@ use Rattle.reader.specs.declared.ManyRead.{ManyRead}
 use Rattle.reader.specs.declared.ManyRead.the-variants as many
 use Rattle.reader.specs.declared.Sign.{Sign}
 use Rattle.reader.specs.declared.Sign.the-variants as sign
+use Rattle.reader.specs.declared.Look.{Look}
+use Rattle.reader.specs.declared.Look.the-variants as look
 
 -- a tree's bytes and the token after it; the start of a `)`; the source's end; a refusal's number and place
 pub data Size : Type 0 where
@@ -86,6 +89,10 @@ allRecordsIn (upTo xs t) = recordsOf xs
 allRecordsIn (toEnd xs) = recordsOf xs
 allRecordsIn (none-of n a) = []
 
+-- the record of a list of these items, and the items
+abbrev pub listRecordsIn : Many → List ℕ
+listRecordsIn x = record-of 4 (le 4 (countOf (sizesOf x))) ++ allRecordsIn x
+
 abbrev pub Room : One → ℕ → Type 0
 Room (got x a) k = length (records x) ≤ k
 Room (closed t) k = Unit {0}
@@ -96,6 +103,16 @@ abbrev pub Rooms : Many → ℕ → Type 0
 Rooms (upTo xs t) k = length (recordsOf xs) ≤ k
 Rooms (toEnd xs) k = length (recordsOf xs) ≤ k
 Rooms (none-of n a) k = ⊥
+
+abbrev pub ListRoom : Many → ℕ → Type 0
+ListRoom x k = (10 ≤ k) × Rooms x (k - 10)
+
+-- what is seen at a glance
+abbrev pub Seen : List ℕ → Answer → Look → Type 0
+Seen s a (look.Name p n l) = (a ≡ is (token symbol p n)) × (answerOf l ≡ nextToken s (p + n)) × (signOf (answerOf l) ≡ sign.Other)
+Seen s a (look.Open p) = a ≡ is (token lparen p 1)
+Seen s a (look.Close p) = a ≡ is (token rparen p 1)
+Seen s a look.Other = Unit {0}
 
 -- a list's size by those of its items, where its `(` stands at a place; a size that leaves room to add to it, and a `)` within the source
 abbrev pub listSize : List ℕ → ℕ → Sizes → Size

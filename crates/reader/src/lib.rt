@@ -1,21 +1,18 @@
 // The reader: the trees of a source, as a node table, or the first refusal. A pass that measures and refuses, then a pass that writes.
+mod put;
+
 use lexer::Lexed;
 use lexer::Token;
 use refusals::Refusal;
-use wide::Wide;
 ghost use mathlib.Core.Path.{_≡_};
-ghost use mathlib.Core.List.{_++_};
-ghost use Prim.Native.Nat.{_+_, _≤_, _-_, suc};
-ghost use lib.ListN.{length, take, drop};
+ghost use Prim.Native.Nat.{_≤_, suc};
+ghost use lib.ListN.{length};
 ghost use Rattle.refusals.specs.Numbers.{sourceLimit};
 ghost use Rattle.lists.specs.Over.{over};
-ghost use Rattle.wide.specs.Value.{value};
-ghost use Rattle.wide.specs.Bytes.{le, wideBytes};
 ghost use Rattle.lexer.specs.Tokens.{answerOf};
-ghost use Rattle.table.specs.Trees.{record-of};
 ghost use Rattle.reader.specs.Grammar.{readTree, readItems};
 ghost use Rattle.reader.specs.Reading.{reading, readInto, readOf};
-ghost use Rattle.reader.specs.Sizes.{sizeOf, sizesOf, oneOf, manyOf, not, bindSize, listSize, signOf, pastOf, countOf, SizeIn, SizesIn, Lexes, recordsIn, allRecordsIn, Room, Rooms};
+ghost use Rattle.reader.specs.Sizes.{sizeOf, sizesOf, oneOf, manyOf, not, bindSize, listSize, signOf, pastOf, countOf, SizeIn, SizesIn, none-at, Lexes, Seen, recordsIn, allRecordsIn, listRecordsIn, Room, Rooms, ListRoom};
 
 pub enum Readout {
     // The bytes of the table.
@@ -46,10 +43,26 @@ enum Sign {
     Other,
 }
 
+// What a token is to a loop over trees, at a glance: most tokens are names and parens, and need no call to read a tree.
+enum Look {
+    // A symbol with no `@` behind it: its start, its length, and the token after it.
+    Name(usize, usize, Lexed),
+    // The starts of `(` and `)`.
+    Open(usize),
+    Close(usize),
+    Other,
+}
+
 fn no(number: u8, place: usize) -> OneRead
     ensures { λ r. ⌜ oneOf r ≡ not number place ⌝ }
 {
     OneRead::No(Refusal { number, place })
+}
+
+fn none(number: u8, place: usize) -> ManyRead
+    ensures { λ r. ⌜ manyOf r ≡ none-at number place ⌝ }
+{
+    ManyRead::No(Refusal { number, place })
 }
 
 fn sign_of(tok: Lexed) -> Sign
@@ -65,6 +78,30 @@ fn sign_of(tok: Lexed) -> Sign
             Token::At => Sign::At(start + 1),
             Token::Symbol(_) => Sign::Other,
             Token::Int(_, _) => Sign::Other,
+        },
+    }
+}
+
+fn glance(src: &[u8], tok: Lexed) -> Look
+    requires { ⌜ Lexes (now src) (answerOf tok) ⌝ }
+    ensures { λ r. ⌜ Seen (now (src .entry)) (answerOf tok) r ⌝ }
+{
+    match tok {
+        Lexed::End => Look::Other,
+        Lexed::Refused(_) => Look::Other,
+        Lexed::Token(t, start) => match t {
+            Token::LParen => Look::Open(start),
+            Token::RParen => Look::Close(start),
+            Token::At => Look::Other,
+            Token::Int(_, _) => Look::Other,
+            Token::Symbol(n) => {
+                let next = lexer::next_token(src, start + n);
+                let sign = sign_of(next);
+                match sign {
+                    Sign::Other => Look::Name(start, n, next),
+                    Sign::At(_) => Look::Other,
+                }
+            }
         },
     }
 }
@@ -158,75 +195,57 @@ fn read_items(src: &[u8], first: Lexed, depth: usize) -> ManyRead
     let mut n = 0;
     let mut size = 0;
     loop {
-        let one = read_tree(src, tok, depth);
-        match one {
-            OneRead::No(r) => {
-                return ManyRead::No(r);
-            }
-            OneRead::Closed(at) => {
+        let seen = glance(src, tok);
+        match seen {
+            Look::Close(at) => {
                 return ManyRead::UpTo(n, size, at);
             }
-            OneRead::Ended => {
-                return ManyRead::ToEnd(n, size);
-            }
-            OneRead::Got(len, next) => {
+            Look::Name(start, k, next) => {
                 tok = next;
                 n += 1;
-                size += len;
+                size += k + 6;
+            }
+            Look::Open(start) => {
+                if depth == 0 {
+                    return none(refusals::TOO_DEEP, start);
+                }
+                let inner = lexer::next_token(src, start + 1);
+                let items = read_items(src, inner, depth - 1);
+                match items {
+                    ManyRead::No(r) => {
+                        return ManyRead::No(r);
+                    }
+                    ManyRead::ToEnd(_, _) => {
+                        return none(refusals::LIST_OPEN, start);
+                    }
+                    ManyRead::UpTo(_, len, at) => {
+                        tok = lexer::next_token(src, at + 1);
+                        n += 1;
+                        size += len + 10;
+                    }
+                }
+            }
+            Look::Other => {
+                let one = read_tree(src, tok, depth);
+                match one {
+                    OneRead::No(r) => {
+                        return ManyRead::No(r);
+                    }
+                    OneRead::Closed(at) => {
+                        return ManyRead::UpTo(n, size, at);
+                    }
+                    OneRead::Ended => {
+                        return ManyRead::ToEnd(n, size);
+                    }
+                    OneRead::Got(len, next) => {
+                        tok = next;
+                        n += 1;
+                        size += len;
+                    }
+                }
             }
         }
     }
-}
-
-// The head of a record: the length of the whole record, and its kind.
-fn put_head(len: usize, kind: usize, buf: &mut [u8])
-    requires { ⌜ 6 ≤ length (now buf) ⌝ }
-    ensures { λ _. ⌜ now (buf .exit) ≡ over (le 4 len ++ le 2 kind) (now (buf .entry)) ⌝ }
-{
-    buf[0] = (len % 256) as u8;
-    buf[1] = (len / 256 % 256) as u8;
-    buf[2] = (len / 256 / 256 % 256) as u8;
-    buf[3] = (len / 256 / 256 / 256 % 256) as u8;
-    buf[4] = (kind % 256) as u8;
-    buf[5] = (kind / 256 % 256) as u8;
-}
-
-// The n bytes of the source from `start` on.
-fn put_bytes(src: &[u8], start: usize, n: usize, buf: &mut [u8])
-    requires { ⌜ (start + n ≤ length (now src)) × (n ≤ length (now buf)) ⌝ }
-    ensures { λ _. ⌜ now (buf .exit) ≡ over (take n (drop start (now (src .entry)))) (now (buf .entry)) ⌝ }
-{
-    let mut i = 0;
-    while i < n {
-        buf[i] = src[start + i];
-        i += 1;
-    }
-}
-
-// The record of a symbol, or of a binding's name.
-fn put_name(src: &[u8], start: usize, n: usize, kind: usize, buf: &mut [u8])
-    requires { ⌜ (start + n ≤ length (now src)) × (n + 6 ≤ length (now buf)) ⌝ }
-    ensures { λ _. ⌜ now (buf .exit) ≡ over (record-of kind (take n (drop start (now (src .entry))))) (now (buf .entry)) ⌝ }
-{
-    put_head(n + 6, kind, buf);
-    put_bytes(src, start, n, &mut buf[6..]);
-}
-
-fn put_int(w: Wide, buf: &mut [u8])
-    requires { ⌜ 22 ≤ length (now buf) ⌝ }
-    ensures { λ _. ⌜ now (buf .exit) ≡ over (record-of 2 (wideBytes (value w))) (now (buf .entry)) ⌝ }
-{
-    put_head(22, 2, buf);
-    wide::put_wide(w, &mut buf[6..]);
-}
-
-// The record of a list of n items, without the items.
-fn put_list(n: usize, buf: &mut [u8])
-    requires { ⌜ 10 ≤ length (now buf) ⌝ }
-    ensures { λ _. ⌜ now (buf .exit) ≡ over (record-of 4 (le 4 n)) (now (buf .entry)) ⌝ }
-{
-    put_head(10, 4, buf);
-    wide::put_u32(n, &mut buf[6..]);
 }
 
 // Writes the records of the tree that `tok` begins, which has been read before, into the front of `buf`.
@@ -242,7 +261,7 @@ fn write_tree(src: &[u8], tok: Lexed, depth: usize, buf: &mut [u8]) -> OneRead
             Token::RParen => OneRead::Closed(start),
             Token::At => no(refusals::NO_SYMBOL, start),
             Token::Int(w, n) => {
-                put_int(w, buf);
+                put::integer(w, buf);
                 let next = lexer::next_token(src, start + n);
                 OneRead::Got(22, next)
             }
@@ -251,8 +270,7 @@ fn write_tree(src: &[u8], tok: Lexed, depth: usize, buf: &mut [u8]) -> OneRead
                     return no(refusals::TOO_DEEP, start);
                 }
                 let first = lexer::next_token(src, start + 1);
-                let items = write_items(src, first, depth - 1, &mut buf[10..]);
-                put_list(count_of(items), buf);
+                let items = write_list(src, first, depth - 1, buf);
                 listed(src, start, items)
             }
             Token::Symbol(n) => {
@@ -260,14 +278,14 @@ fn write_tree(src: &[u8], tok: Lexed, depth: usize, buf: &mut [u8]) -> OneRead
                 let sign = sign_of(next);
                 match sign {
                     Sign::Other => {
-                        put_name(src, start, n, 1, buf);
+                        put::name(src, start, n, 1, buf);
                         OneRead::Got(n + 6, next)
                     }
                     Sign::At(at) => {
                         if depth == 0 {
                             return no(refusals::TOO_DEEP, start);
                         }
-                        put_name(src, start, n, 3, buf);
+                        put::name(src, start, n, 3, buf);
                         let first = lexer::next_token(src, at);
                         let value = write_tree(src, first, depth - 1, &mut buf[n + 6..]);
                         bound(src, n, value)
@@ -276,6 +294,18 @@ fn write_tree(src: &[u8], tok: Lexed, depth: usize, buf: &mut [u8]) -> OneRead
             }
         },
     }
+}
+
+// Writes a list whose items begin with `first`: the items behind its own record, which has their count.
+fn write_list(src: &[u8], first: Lexed, depth: usize, buf: &mut [u8]) -> ManyRead
+    requires { ⌜ Lexes (now src) (answerOf first)
+        × ListRoom (readItems (readTree (now src) depth) (suc (length (now src))) (answerOf first)) (length (now buf)) ⌝ }
+    ensures { λ r. ⌜ (manyOf r ≡ sizesOf (readItems (readTree (now (src .entry)) depth) (suc (length (now (src .entry)))) (answerOf first)))
+        × (now (buf .exit) ≡ over (listRecordsIn (readItems (readTree (now (src .entry)) depth) (suc (length (now (src .entry)))) (answerOf first))) (now (buf .entry))) ⌝ }
+{
+    let items = write_items(src, first, depth, &mut buf[10..]);
+    put::list(count_of(items), buf);
+    items
 }
 
 // Writes the records of trees in a row, each into the rest of `buf` from its first free byte.
@@ -289,21 +319,55 @@ fn write_items(src: &[u8], first: Lexed, depth: usize, buf: &mut [u8]) -> ManyRe
     let mut n = 0;
     let mut size = 0;
     loop {
-        let one = write_tree(src, tok, depth, &mut buf[size..]);
-        match one {
-            OneRead::No(r) => {
-                return ManyRead::No(r);
-            }
-            OneRead::Closed(at) => {
+        let seen = glance(src, tok);
+        match seen {
+            Look::Close(at) => {
                 return ManyRead::UpTo(n, size, at);
             }
-            OneRead::Ended => {
-                return ManyRead::ToEnd(n, size);
-            }
-            OneRead::Got(len, next) => {
+            Look::Name(start, k, next) => {
+                put::name(src, start, k, 1, &mut buf[size..]);
                 tok = next;
                 n += 1;
-                size += len;
+                size += k + 6;
+            }
+            Look::Open(start) => {
+                if depth == 0 {
+                    return none(refusals::TOO_DEEP, start);
+                }
+                let inner = lexer::next_token(src, start + 1);
+                let items = write_list(src, inner, depth - 1, &mut buf[size..]);
+                match items {
+                    ManyRead::No(r) => {
+                        return ManyRead::No(r);
+                    }
+                    ManyRead::ToEnd(_, _) => {
+                        return none(refusals::LIST_OPEN, start);
+                    }
+                    ManyRead::UpTo(_, len, at) => {
+                        tok = lexer::next_token(src, at + 1);
+                        n += 1;
+                        size += len + 10;
+                    }
+                }
+            }
+            Look::Other => {
+                let one = write_tree(src, tok, depth, &mut buf[size..]);
+                match one {
+                    OneRead::No(r) => {
+                        return ManyRead::No(r);
+                    }
+                    OneRead::Closed(at) => {
+                        return ManyRead::UpTo(n, size, at);
+                    }
+                    OneRead::Ended => {
+                        return ManyRead::ToEnd(n, size);
+                    }
+                    OneRead::Got(len, next) => {
+                        tok = next;
+                        n += 1;
+                        size += len;
+                    }
+                }
             }
         }
     }

@@ -1,14 +1,14 @@
--- `reader::put_head`: bytes stored one by one at known places.
+-- `reader::put::head`: bytes stored one by one at known places.
 use mathlib.Core.List.{_++_}
 use native.Mathlib.Omega.{arith}
 use lib.ListN.{length-set}
 use lib.Seq.{sets-eq}
 use Rattle.wide.specs.Bytes.{le}
 use borrow.Author.Needs.{needs}
-use Rattle.reader.proofs.put_head.Statement.{statement}
-use Rattle.reader.proofs.put_head.Tie as tie
-use Rattle.reader.proofs.put_head.Reads as reads
-use Rattle.reader.proofs.put_head.Lts as lts
+use Rattle.reader.proofs.put.head.Statement.{statement}
+use Rattle.reader.proofs.put.head.Tie as tie
+use Rattle.reader.proofs.put.head.Reads as reads
+use Rattle.reader.proofs.put.head.Lts as lts
 
 cast-buf : tie.Need-cast-buf
 cast-buf c = search needs
@@ -53,8 +53,8 @@ returns : tie.Need-returns
 unfolding le
 returns c = sets-eq (le 4 (c .args .len) ++ le 2 (c .args .kind)) (c .args .buf .now) 0 (c .pre)
 
-pub put-head-spec : {M : Type 1} → statement M
-put-head-spec =
+pub head-spec : {M : Type 1} → statement M
+head-spec =
     tie.close
     (tie.spec
     cast-buf

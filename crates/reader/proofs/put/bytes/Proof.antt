@@ -1,4 +1,4 @@
--- `reader::put_bytes`: one byte a turn.
+-- `reader::put::bytes`: one byte a turn.
 use mathlib.Core.Path.{_≡_, refl, ap, _∙_}
 use Prim.Native.Nat.{ℕ, _+_, _-_, _≤_}
 use native.Mathlib.Omega.{arith}
@@ -7,10 +7,10 @@ use lib.ListN.{length, take, drop}
 use Rattle.lists.specs.Over.{over}
 use Rattle.lists.proofs.Writing.{Wrote, wrote-none, wrote-length}
 use Rattle.reader.proofs.Putting.{copied}
-use Rattle.reader.proofs.put_bytes.Statement.{statement}
-use Rattle.reader.proofs.put_bytes.Tie as tie
-use Rattle.reader.proofs.put_bytes.Reads as reads
-use Rattle.reader.proofs.put_bytes.Lts as lts
+use Rattle.reader.proofs.put.bytes.Statement.{statement}
+use Rattle.reader.proofs.put.bytes.Tie as tie
+use Rattle.reader.proofs.put.bytes.Reads as reads
+use Rattle.reader.proofs.put.bytes.Lts as lts
 
 abbrev Inv-loop : tie.InvT-loop
 Inv-loop src start n buf₀ i₀ buf i = (i ≤ n) × (start + n ≤ length src) × (n ≤ length buf₀) × (length buf ≡ length buf₀) × Wrote (take i (drop start src)) buf₀ buf i
@@ -52,8 +52,8 @@ returns c =
     let e : l .i ≡ a .n = search needs in
     l .inv .4 .holds ∙ ap (λ (k : ℕ). over (take k (drop (a .start) (a .src .now))) (a .buf .now)) e
 
-pub put-bytes-spec : {M : Type 1} → statement M
-put-bytes-spec =
+pub bytes-spec : {M : Type 1} → statement M
+bytes-spec =
     tie.close
     (tie.spec
     Inv-loop

@@ -1,4 +1,4 @@
--- `reader::put_int`: the head, then the payload into the rest of the buffer.
+-- `reader::put::integer`: the head, then the payload into the rest of the buffer.
 use mathlib.Core.Path.{_≡_}
 use native.Mathlib.Omega.{arith}
 use lib.ListN.{length}
@@ -7,15 +7,15 @@ use Rattle.wide.specs.Bytes.{wideBytes}
 use Rattle.wide.proofs.Numbers.{wide-length}
 use Rattle.reader.proofs.Putting.{headed-fits}
 use borrow.Author.Needs.{needs}
-use Rattle.reader.proofs.put_int.Statement.{statement}
-use Rattle.reader.proofs.put_int.Tie as tie
-use Rattle.reader.proofs.put_int.Reads as reads
-use Rattle.reader.proofs.put_int.Lts as lts
-use Rattle.reader.proofs.put_head.Reads as put-head-reads
+use Rattle.reader.proofs.put.integer.Statement.{statement}
+use Rattle.reader.proofs.put.integer.Tie as tie
+use Rattle.reader.proofs.put.integer.Reads as reads
+use Rattle.reader.proofs.put.integer.Lts as lts
+use Rattle.reader.proofs.put.head.Reads as head-reads
 use Rattle.wide.proofs.put_wide.Reads as put-wide-reads
 
-put-head-requires : tie.Need-put-head-requires
-put-head-requires c κs = search needs
+head-requires : tie.Need-head-requires
+head-requires c κs = search needs
 
 sub-put-wide : tie.Need-sub-put-wide
 sub-put-wide c = search needs
@@ -36,13 +36,13 @@ returns : tie.Need-returns
 returns c =
     let p = c .before .before .before .before .before .before in
     let k : length (wideBytes (value (c .before .before .before .before .before .before .before .before .before .args .w))) ≡ 16 = wide-length (value (c .before .before .before .before .before .before .before .before .before .args .w)) in
-    headed-fits 22 2 _ _ _ _ (omega (arith, k)) (omega arith) (p .put-head .ensures) (c .before .before .put-wide .ensures)
+    headed-fits 22 2 _ _ _ _ (omega (arith, k)) (omega arith) (p .head .ensures) (c .before .before .put-wide .ensures)
 
-pub put-int-spec : {M : Type 1} → statement M
-put-int-spec =
+pub integer-spec : {M : Type 1} → statement M
+integer-spec =
     tie.close
     (tie.spec
-    put-head-requires
+    head-requires
     sub-put-wide
     part-put-wide-start
     part-put-wide-end
