@@ -214,3 +214,9 @@ starts (pos n) r h = lead (digitsOf n) (spells-of n h)
     lead [] s = absurd (omega (arith, s .some))
     lead (b ∷ ds) s = ap semicolon (s .all .0 .class)
 starts (negsuc n) r h = refl
+
+-- and are not empty
+pub spelt-some : (z : ℤ) → natAbs z < 2 ^ 127 → 1 ≤ length (decimalOf z)
+unfolding decimalOf
+spelt-some (pos n) h = spells-of n h .some
+spelt-some (negsuc n) h = omega arith
