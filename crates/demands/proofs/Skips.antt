@@ -10,7 +10,7 @@ use lib.ListN.{take, drop, getD, length, replicate, length-append, length-drop}
 use lib.Seq.{take-at}
 use borrow.Author.Tests.{le-ltb}
 use Rattle.refusals.specs.Numbers.{sourceLimit}
-use Rattle.lists.proofs.Places.{next, past as drop-past}
+use Rattle.lists.proofs.Places.{past as drop-past}
 use Rattle.lists.proofs.Choice.{and-left, and-right, true-false}
 use Rattle.classes.specs.declared.Class.{Class}
 use Rattle.classes.specs.declared.Class.the-variants.{Space, LineEnd, Semicolon, LParen, RParen, AtSign, FormFeed, Minus, Digit, Other}
@@ -22,6 +22,7 @@ use Rattle.lexer.specs.Lexing.{Between, skip, symbolEnd, lexIn, nextToken}
 use Rattle.lexer.specs.Streams.{Stream, then, onward, tokensFrom}
 use Rattle.lexer.specs.Said.{Item, open-paren, close-paren, at-sign, name, number, Said, the-end, says, itemOf, said}
 use Rattle.table.specs.Trees.{runsOn, isSymbol}
+use Rattle.demands.proofs.Held.{At, next}
 use Rattle.demands.proofs.Spelling.{spelt, spelt-some}
 
 -- what stands behind a tree: a space, LF or `)`, any of which ends a symbol and a literal
@@ -96,25 +97,20 @@ line-on l p = refl
 
 -- ---- a rest of a source
 
--- l is what is left of s at p
-record Left (s : List ℕ) (p : ℕ) (l : List ℕ) : Type 0 where
-  rest : drop p s ≡ l
-  bound : p ≤ length s
-
 -- from wherever l is left of the source, by any number of calls above its length, the tokens say x
 pub Good : List ℕ → Said → List ℕ → Type 0
-Good s x l = (p n : ℕ) → Left s p l → length l < n → said s (tokensFrom n s p) ≡ x
+Good s x l = (p n : ℕ) → At s p l → length l < n → said s (tokensFrom n s p) ≡ x
 
 module _ (s : List ℕ) (limit : length s ≤ sourceLimit) where
   -- in a source within its limit, the next token is that of the rest
-  token-at : (p : ℕ) (l : List ℕ) → Left s p l → nextToken s p ≡ lexIn 0 Between l p
+  token-at : (p : ℕ) (l : List ℕ) → At s p l → nextToken s p ≡ lexIn 0 Between l p
   unfolding nextToken
-  token-at p l e = rw (le-ltb sourceLimit (length s) limit, le-ltb (length s) p (e .bound), e .rest) refl
+  token-at p l e = rw (le-ltb sourceLimit (length s) limit, le-ltb (length s) p (e .bound), e .left) refl
 
-  past : (p : ℕ) (n r : List ℕ) → Left s p (n ++ r) → 1 ≤ length n → Left s (p + length n) r
+  past : (p : ℕ) (n r : List ℕ) → At s p (n ++ r) → 1 ≤ length n → At s (p + length n) r
   past p n r e h =
-      let k : length s - p ≡ length (n ++ r) = sym (length-drop p s) ∙ ap length (e .rest) in
-      record { rest = drop-past s n r p (e .rest); bound = omega (arith, length-append n r) }
+      let k : length s - p ≡ length (n ++ r) = sym (length-drop p s) ∙ ap length (e .left) in
+      record { left = drop-past s n r p (e .left); bound = omega (arith, length-append n r) }
 
   -- a token, and what comes after it
   good-token : (k : Kind) (n r : List ℕ) (x : Item) (y : Said) → 1 ≤ length n → ((p : ℕ) → lexIn 0 Between (n ++ r) p ≡ is (token k p (length n)))
@@ -123,7 +119,7 @@ module _ (s : List ℕ) (limit : length s ≤ sourceLimit) where
   good-token k n r x y h t i g p zero e f = absurd (omega arith)
   good-token k n r x y h t i g p (suc m) e f =
       ap (λ (a : Answer). said s (onward a (λ u. tokensFrom m s (u .start + u .size)))) (token-at p (n ++ r) e ∙ t p)
-      ∙ ap (λ (z : Item). says z (said s (tokensFrom m s (p + length n)))) (i p (e .rest))
+      ∙ ap (λ (z : Item). says z (said s (tokensFrom m s (p + length n)))) (i p (e .left))
       ∙ ap (says x) (g (p + length n) m (past p n r e h) (omega (arith, length-append n r)))
 
   -- a byte that is skipped between tokens
@@ -131,8 +127,7 @@ module _ (s : List ℕ) (limit : length s ≤ sourceLimit) where
   unfolding Good tokensFrom
   good-skip b l y t g p zero e f = absurd (omega arith)
   good-skip b l y t g p (suc m) e f =
-      let k : length s - p ≡ suc (length l) = sym (length-drop p s) ∙ ap length (e .rest) in
-      let d : Left s (suc p) l = record { rest = next s p b l (e .rest); bound = omega arith } in
+      let d : At s (suc p) l = next s p b l e in
       ap (λ (a : Answer). said s (onward a (λ u. tokensFrom m s (u .start + u .size)))) (token-at p (b ∷ l) e ∙ t p ∙ sym (token-at (suc p) l d))
       ∙ g (suc p) (suc m) d (omega arith)
 
@@ -175,4 +170,4 @@ module _ (s : List ℕ) (limit : length s ≤ sourceLimit) where
 -- the whole source
 pub whole : (s : List ℕ) (x : Said) → Good s x s → said s (tokensFrom (suc (length s)) s 0) ≡ x
 unfolding Good
-whole s x g = g 0 (suc (length s)) (record { rest = refl; bound = omega arith }) (omega arith)
+whole s x g = g 0 (suc (length s)) (record { left = refl; bound = omega arith }) (omega arith)
