@@ -16,7 +16,7 @@ use Rattle.printer.specs.Layout.{bytes, column, gap, inner, back, wrapped, name
 use Rattle.lists.proofs.Choice.{true-false}
 use Rattle.demands.proofs.Spelling.{starts}
 use Rattle.demands.proofs.Skips.{Sep, space, line, close, Clear, first-byte, Good, good-end, good-symbol, good-integer, good-open, good-close, good-at, good-space, good-line, good-spaces, whole}
-use Rattle.demands.proofs.Sayable.{Sayable, Sayables}
+use Rattle.demands.proofs.Sayable.{Sayable, Sayables, magnitude}
 
 regroup : (a b c r : List ℕ) → a ++ (b ++ (c ++ r)) ≡ (a ++ (b ++ c)) ++ r
 regroup a b c r = ap (λ (l : List ℕ). a ++ l) (sym (append-assoc b c r)) ∙ sym (append-assoc a (b ++ c) r)
@@ -33,7 +33,7 @@ clear-name (b ∷ n) r h = ap semicolon (first-byte b n h)
 clear-lay : (x : Tree) (m : Wrapping) (w i c : ℕ) (r : List ℕ) → Sayable x → Clear (bytes (lay x m w i c) ++ r)
 unfolding Sayable lay
 clear-lay (symbol n) m w i c r h = clear-name n r h
-clear-lay (integer z) m w i c r h = starts z r h
+clear-lay (integer z) m w i c r h = starts z r (magnitude z (h .0) (h .1))
 clear-lay (binding n x) m w i c r h = subst Clear (regroup-name n (bytes (lay x m w i (c + length (named n)))) r) (clear-name n _ (h .0))
 clear-lay (list xs) m w i c r h = unfold classOf in refl
 
@@ -71,7 +71,7 @@ module _ (s : List ℕ) (limit : length s ≤ sourceLimit) where
 
     good-lay : (x : Tree) → Sayable x → (m : Wrapping) (w i c : ℕ) (y : Said) (r : List ℕ) → Sep r → Good s y r → Good s (spoken x y) (bytes (lay x m w i c) ++ r)
     good-lay (symbol n) h m w i c y r k g = good-symbol s limit n r y h k g
-    good-lay (integer z) h m w i c y r k g = good-integer s limit z r y h k g
+    good-lay (integer z) h m w i c y r k g = good-integer s limit z r y (magnitude z (h .0) (h .1)) k g
     good-lay (binding n x) h m w i c y r k g =
         let b = lay x m w i (c + length (named n)) in
         subst (Good s (spoken (binding n x) y)) (regroup-name n (bytes b) r)
