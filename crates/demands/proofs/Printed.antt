@@ -1,14 +1,13 @@
 -- What is printed of trees at any width has exactly their tokens. Assumes nothing.
 use mathlib.Core.Path.{_≡_, refl, sym, ap, _∙_, subst}
 use mathlib.Core.List.{List, [], _∷_, _++_, append-assoc}
-use mathlib.Core.Bool.{Bool, true, false, cond}
-use Prim.Native.Nat.{ℕ, zero, suc, _+_, _*_, _≤_}
-use lib.ListN.{length, replicate}
+use mathlib.Core.Bool.{Bool, true, false}
+use Prim.Native.Nat.{ℕ, _+_, _*_, _≤_}
+use lib.ListN.{length}
 use Rattle.refusals.specs.Numbers.{sourceLimit}
 use Rattle.classes.specs.Classes.{classOf, semicolon}
-use Rattle.wide.specs.Decimal.{decimalOf}
 use Rattle.lexer.specs.Streams.{tokensOf}
-use Rattle.lexer.specs.Said.{open-paren, close-paren, at-sign, name, Said, the-end, says, said}
+use Rattle.lexer.specs.Said.{close-paren, Said, the-end, says, said}
 use Rattle.table.specs.Trees.{Tree, Trees, symbol, integer, binding, list, none, more, isSymbol, spoken, spokens}
 use Rattle.printer.specs.declared.Wrapping.{Wrapping}
 use Rattle.printer.specs.declared.Wrapping.the-variants.{Wrap, SingleLine}

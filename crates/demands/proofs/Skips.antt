@@ -1,10 +1,9 @@
 -- What a rest of a source says, built up from its end: a blank more in front says the same, a token more says its item first. Assumes nothing.
 use mathlib.Core.Path.{_≡_, refl, sym, ap, _∙_}
 use mathlib.Core.List.{List, [], _∷_, _++_}
-use mathlib.Core.Bool.{Bool, true, false, _&&_}
-use Prim.Native.Nat.{ℕ, zero, suc, _+_, _*_, _-_, _^_, _≤_, _<_}
+use mathlib.Core.Bool.{true, false}
+use Prim.Native.Nat.{ℕ, zero, suc, _+_, _-_, _^_, _≤_, _<_}
 use native.Mathlib.Omega.{arith}
-use lib.Dec.{ltb}
 use lib.IntN.{ℤ, natAbs}
 use lib.ListN.{take, drop, getD, length, replicate, length-append, length-drop}
 use lib.Seq.{take-at}
@@ -16,10 +15,10 @@ use Rattle.classes.specs.declared.Class.{Class}
 use Rattle.classes.specs.declared.Class.the-variants.{Space, LineEnd, Semicolon, LParen, RParen, AtSign, FormFeed, Minus, Digit, Other}
 use Rattle.classes.specs.Classes.{classOf, semicolon, symbolFirst, symbolOther, digitOf, literalByte}
 use Rattle.wide.specs.Decimal.{decimalOf}
-use Rattle.lexer.specs.Tokens.{Kind, lparen, rparen, at-sign as at-token, symbol, int, token, Answer, end, is, refused}
+use Rattle.lexer.specs.Tokens.{Kind, lparen, rparen, at-sign as at-token, symbol, int, token, Answer, is}
 use Rattle.lexer.specs.Literals.{radixOf}
 use Rattle.lexer.specs.Lexing.{Between, skip, symbolEnd, lexIn, nextToken}
-use Rattle.lexer.specs.Streams.{Stream, then, onward, tokensFrom}
+use Rattle.lexer.specs.Streams.{onward, tokensFrom}
 use Rattle.lexer.specs.Said.{Item, open-paren, close-paren, at-sign, name, number, Said, the-end, says, itemOf, said}
 use Rattle.table.specs.Trees.{runsOn, isSymbol}
 use Rattle.demands.proofs.Held.{At, next}

@@ -5,21 +5,19 @@ use mathlib.Core.Bool.{Bool, true, false, cond}
 use Prim.Native.Nat.{ℕ, zero, suc, _+_, _*_, _-_, _/_, _%_, _^_, _≤_, _<_}
 use native.Mathlib.Omega.{arith}
 use native.Mathlib.Nat.{pow-suc, div-lt-iff-lt-mul, div-add-mod', mod-lt, mod-eq-of-lt, lt-of-lt-of-le}
-use lib.Dec.{eqb, leb, ltb, lit<, lit≤}
+use lib.Dec.{eqb, ltb, lit<, lit≤}
 use lib.IntN.{ℤ, pos, negsuc, natAbs}
 use lib.ListN.{getD, length, length-append}
 use mir.Syntax.{w128}
-use mir.Val.{toZ}
 use mir.ValLaws.{toZ-pos, toZ-neg}
 use borrow.Author.Tests.{lt-ltb, ltb-true, ltb-false, lt-leb, ne-eqb}
-use Rattle.classes.specs.declared.Class.{Class}
-use Rattle.classes.specs.declared.Class.the-variants.{Digit, Minus}
+use Rattle.classes.specs.declared.Class.the-variants.{Digit}
 use Rattle.classes.specs.Classes.{classOf, semicolon, digitOf, literalByte}
-use Rattle.wide.specs.Value.{val, split, grown, is as isInteger, integerOf, reduced}
+use Rattle.wide.specs.Value.{val, split, grown, is as isInteger, integerOf}
 use Rattle.wide.specs.Decimal.{digits, digitsOf, decimalOf}
 use Rattle.lexer.specs.declared.literal.Reading.{Reading}
-use Rattle.lexer.specs.declared.literal.Reading.the-variants.{Empty, Foreign, Over, Number}
-use Rattle.lexer.specs.Tokens.{token, Answer, is, int}
+use Rattle.lexer.specs.declared.literal.Reading.the-variants.{Empty, Number}
+use Rattle.lexer.specs.Tokens.{token, is, int}
 use Rattle.lexer.specs.Literals.{taken, digit, grow, reading, literalEnd, radixOf, signed, concluded, unsignedIn}
 use Rattle.lexer.specs.Lexing.{Between, skip, lexIn}
 
