@@ -14,7 +14,7 @@ use Rattle.printer.specs.declared.Wrapping.the-variants.{Wrap, SingleLine}
 use Rattle.printer.specs.Layout.{bytes, column, gap, inner, back, wrapped, named, lay, items, pageFrom, page}
 use Rattle.lists.proofs.Choice.{true-false}
 use Rattle.demands.proofs.Spelling.{starts}
-use Rattle.demands.proofs.Skips.{Sep, space, line, close, Clear, first-byte, Good, good-end, good-symbol, good-integer, good-open, good-close, good-at, good-space, good-line, good-spaces, whole}
+use Rattle.demands.proofs.Rests.{Sep, space, line, close, Clear, first-byte, Tells, tells-end, tells-symbol, tells-integer, tells-open, tells-close, tells-at, tells-space, tells-line, tells-spaces, whole}
 use Rattle.demands.proofs.Sayable.{Sayable, Sayables, magnitude}
 
 regroup : (a b c r : List ℕ) → a ++ (b ++ (c ++ r)) ≡ (a ++ (b ++ c)) ++ r
@@ -55,49 +55,49 @@ sep-items (more x xs) Wrap w i c r = line
 -- ---- the text of trees, before a rest
 
 module _ (s : List ℕ) (limit : length s ≤ sourceLimit) where
-  good-gap : (first : Bool) (m : Wrapping) (i c : ℕ) (l : List ℕ) (y : Said) → Good s y l → Good s y (bytes (gap first m i c) ++ l)
-  good-gap true m i c l y g = g
-  good-gap false SingleLine i c l y g = good-space s limit l y g
-  good-gap false Wrap i c l y g = good-line s limit _ y (good-spaces s limit (4 * (i + 1)) l y g)
+  tells-gap : (first : Bool) (m : Wrapping) (i c : ℕ) (l : List ℕ) (y : Said) → Tells s y l → Tells s y (bytes (gap first m i c) ++ l)
+  tells-gap true m i c l y g = g
+  tells-gap false SingleLine i c l y g = tells-space s limit l y g
+  tells-gap false Wrap i c l y g = tells-line s limit _ y (tells-spaces s limit (4 * (i + 1)) l y g)
 
-  good-back : (first : Bool) (m : Wrapping) (i c : ℕ) (l : List ℕ) (y : Said) → Good s y l → Good s y (bytes (back first m i c) ++ l)
-  good-back true m i c l y g = g
-  good-back false SingleLine i c l y g = g
-  good-back false Wrap i c l y g = good-line s limit _ y (good-spaces s limit (4 * i) l y g)
+  tells-back : (first : Bool) (m : Wrapping) (i c : ℕ) (l : List ℕ) (y : Said) → Tells s y l → Tells s y (bytes (back first m i c) ++ l)
+  tells-back true m i c l y g = g
+  tells-back false SingleLine i c l y g = g
+  tells-back false Wrap i c l y g = tells-line s limit _ y (tells-spaces s limit (4 * i) l y g)
 
   mutual
     unfolding Sayable lay spoken
 
-    good-lay : (x : Tree) → Sayable x → (m : Wrapping) (w i c : ℕ) (y : Said) (r : List ℕ) → Sep r → Good s y r → Good s (spoken x y) (bytes (lay x m w i c) ++ r)
-    good-lay (symbol n) h m w i c y r k g = good-symbol s limit n r y h k g
-    good-lay (integer z) h m w i c y r k g = good-integer s limit z r y (magnitude z (h .0) (h .1)) k g
-    good-lay (binding n x) h m w i c y r k g =
+    tells-lay : (x : Tree) → Sayable x → (m : Wrapping) (w i c : ℕ) (y : Said) (r : List ℕ) → Sep r → Tells s y r → Tells s (spoken x y) (bytes (lay x m w i c) ++ r)
+    tells-lay (symbol n) h m w i c y r k g = tells-symbol s limit n r y h k g
+    tells-lay (integer z) h m w i c y r k g = tells-integer s limit z r y (magnitude z (h .0) (h .1)) k g
+    tells-lay (binding n x) h m w i c y r k g =
         let b = lay x m w i (c + length (named n)) in
-        subst (Good s (spoken (binding n x) y)) (regroup-name n (bytes b) r)
-        (good-symbol s limit n _ _ (h .0) space
-        (good-space s limit _ _ (good-at s limit _ _ (good-space s limit _ _ (good-lay x (h .1) m w i (c + length (named n)) y r k g)))))
-    good-lay (list xs) h m w i c y r k g =
+        subst (Tells s (spoken (binding n x) y)) (regroup-name n (bytes b) r)
+        (tells-symbol s limit n _ _ (h .0) space
+        (tells-space s limit _ _ (tells-at s limit _ _ (tells-space s limit _ _ (tells-lay x (h .1) m w i (c + length (named n)) y r k g)))))
+    tells-lay (list xs) h m w i c y r k g =
         let v : Wrapping = wrapped m w c (list xs) in
-        good-open s limit _ _ (clear-items xs v w i (c + 1) r h) (good-items xs h true v w i (c + 1) y r g)
+        tells-open s limit _ _ (clear-items xs v w i (c + 1) r h) (tells-items xs h true v w i (c + 1) y r g)
 
-    good-items : (xs : Trees) → Sayables xs → (first : Bool) (m : Wrapping) (w i c : ℕ) (y : Said) (r : List ℕ) → Good s y r
-        → Good s (spokens xs (says close-paren y)) (bytes (items xs first m w i c) ++ r)
-    good-items none h first m w i c y r g =
-        subst (Good s (says close-paren y)) (sym (append-assoc (bytes (back first m i c)) (41 ∷ []) r)) (good-back first m i c (41 ∷ r) _ (good-close s limit r y g))
-    good-items (more x xs) h first m w i c y r g =
+    tells-items : (xs : Trees) → Sayables xs → (first : Bool) (m : Wrapping) (w i c : ℕ) (y : Said) (r : List ℕ) → Tells s y r
+        → Tells s (spokens xs (says close-paren y)) (bytes (items xs first m w i c) ++ r)
+    tells-items none h first m w i c y r g =
+        subst (Tells s (says close-paren y)) (sym (append-assoc (bytes (back first m i c)) (41 ∷ []) r)) (tells-back first m i c (41 ∷ r) _ (tells-close s limit r y g))
+    tells-items (more x xs) h first m w i c y r g =
         let a = gap first m i c in
         let b = lay x m w (inner first m i) (column a) in
         let e = items xs false m w i (column b) in
-        subst (Good s (spokens (more x xs) (says close-paren y))) (regroup (bytes a) (bytes b) (bytes e) r)
-        (good-gap first m i c _ _
-        (good-lay x (h .0) m w (inner first m i) (column a) _ _ (sep-items xs m w i (column b) r) (good-items xs (h .1) false m w i (column b) y r g)))
+        subst (Tells s (spokens (more x xs) (says close-paren y))) (regroup (bytes a) (bytes b) (bytes e) r)
+        (tells-gap first m i c _ _
+        (tells-lay x (h .0) m w (inner first m i) (column a) _ _ (sep-items xs m w i (column b) r) (tells-items xs (h .1) false m w i (column b) y r g)))
 
-  good-page : (later : Bool) (xs : Trees) (w : ℕ) → Sayables xs → Good s (spokens xs the-end) (pageFrom later xs w)
+  tells-page : (later : Bool) (xs : Trees) (w : ℕ) → Sayables xs → Tells s (spokens xs the-end) (pageFrom later xs w)
   unfolding Sayable pageFrom spoken
-  good-page later none w h = good-end s limit
-  good-page true (more x xs) w h = good-line s limit _ _ (good-lay x (h .0) Wrap w 0 0 _ _ line (good-line s limit _ _ (good-page true xs w (h .1))))
-  good-page false (more x xs) w h = good-lay x (h .0) Wrap w 0 0 _ _ line (good-line s limit _ _ (good-page true xs w (h .1)))
+  tells-page later none w h = tells-end s limit
+  tells-page true (more x xs) w h = tells-line s limit _ _ (tells-lay x (h .0) Wrap w 0 0 _ _ line (tells-line s limit _ _ (tells-page true xs w (h .1))))
+  tells-page false (more x xs) w h = tells-lay x (h .0) Wrap w 0 0 _ _ line (tells-line s limit _ _ (tells-page true xs w (h .1)))
 
 -- THEOREM printed: the text of trees at any width, if a source may be as long, has exactly the trees' tokens in order, then the end
 pub printed : (xs : Trees) (w : ℕ) → Sayables xs → length (page xs w) ≤ sourceLimit → said (page xs w) (tokensOf (page xs w)) ≡ spokens xs the-end
-printed xs w h l = whole (page xs w) (spokens xs the-end) (good-page (page xs w) l false xs w h)
+printed xs w h l = whole (page xs w) (spokens xs the-end) (tells-page (page xs w) l false xs w h)

@@ -97,8 +97,8 @@ line-on l p = refl
 -- ---- a rest of a source
 
 -- from wherever l is left of the source, by any number of calls above its length, the tokens say x
-pub Good : List ℕ → Said → List ℕ → Type 0
-Good s x l = (p n : ℕ) → At s p l → length l < n → said s (tokensFrom n s p) ≡ x
+pub Tells : List ℕ → Said → List ℕ → Type 0
+Tells s x l = (p n : ℕ) → At s p l → length l < n → said s (tokensFrom n s p) ≡ x
 
 module _ (s : List ℕ) (limit : length s ≤ sourceLimit) where
   -- in a source within its limit, the next token is that of the rest
@@ -112,61 +112,61 @@ module _ (s : List ℕ) (limit : length s ≤ sourceLimit) where
       record { left = drop-past s n r p (e .left); bound = omega (arith, length-append n r) }
 
   -- a token, and what comes after it
-  good-token : (k : Kind) (n r : List ℕ) (x : Item) (y : Said) → 1 ≤ length n → ((p : ℕ) → lexIn 0 Between (n ++ r) p ≡ is (token k p (length n)))
-      → ((p : ℕ) → drop p s ≡ n ++ r → itemOf s p (length n) k ≡ x) → Good s y r → Good s (says x y) (n ++ r)
-  unfolding Good said tokensFrom
-  good-token k n r x y h t i g p zero e f = absurd (omega arith)
-  good-token k n r x y h t i g p (suc m) e f =
+  tells-token : (k : Kind) (n r : List ℕ) (x : Item) (y : Said) → 1 ≤ length n → ((p : ℕ) → lexIn 0 Between (n ++ r) p ≡ is (token k p (length n)))
+      → ((p : ℕ) → drop p s ≡ n ++ r → itemOf s p (length n) k ≡ x) → Tells s y r → Tells s (says x y) (n ++ r)
+  unfolding Tells said tokensFrom
+  tells-token k n r x y h t i g p zero e f = absurd (omega arith)
+  tells-token k n r x y h t i g p (suc m) e f =
       ap (λ (a : Answer). said s (onward a (λ u. tokensFrom m s (u .start + u .size)))) (token-at p (n ++ r) e ∙ t p)
       ∙ ap (λ (z : Item). says z (said s (tokensFrom m s (p + length n)))) (i p (e .left))
       ∙ ap (says x) (g (p + length n) m (past p n r e h) (omega (arith, length-append n r)))
 
   -- a byte that is skipped between tokens
-  good-skip : (b : ℕ) (l : List ℕ) (y : Said) → ((p : ℕ) → lexIn 0 Between (b ∷ l) p ≡ lexIn 0 Between l (suc p)) → Good s y l → Good s y (b ∷ l)
-  unfolding Good tokensFrom
-  good-skip b l y t g p zero e f = absurd (omega arith)
-  good-skip b l y t g p (suc m) e f =
+  tells-skip : (b : ℕ) (l : List ℕ) (y : Said) → ((p : ℕ) → lexIn 0 Between (b ∷ l) p ≡ lexIn 0 Between l (suc p)) → Tells s y l → Tells s y (b ∷ l)
+  unfolding Tells tokensFrom
+  tells-skip b l y t g p zero e f = absurd (omega arith)
+  tells-skip b l y t g p (suc m) e f =
       let d : At s (suc p) l = next s p b l e in
       ap (λ (a : Answer). said s (onward a (λ u. tokensFrom m s (u .start + u .size)))) (token-at p (b ∷ l) e ∙ t p ∙ sym (token-at (suc p) l d))
       ∙ g (suc p) (suc m) d (omega arith)
 
-  pub good-end : Good s the-end []
-  unfolding Good said tokensFrom lexIn
-  good-end p zero e f = absurd (omega arith)
-  good-end p (suc m) e f = ap (λ (a : Answer). said s (onward a (λ u. tokensFrom m s (u .start + u .size)))) (token-at p [] e)
+  pub tells-end : Tells s the-end []
+  unfolding Tells said tokensFrom lexIn
+  tells-end p zero e f = absurd (omega arith)
+  tells-end p (suc m) e f = ap (λ (a : Answer). said s (onward a (λ u. tokensFrom m s (u .start + u .size)))) (token-at p [] e)
 
   some : (n : List ℕ) → isSymbol n ≡ true → 1 ≤ length n
   some [] h = unfold isSymbol in true-false (sym h)
   some (b ∷ n) h = omega arith
 
-  pub good-symbol : (n r : List ℕ) (y : Said) → isSymbol n ≡ true → Sep r → Good s y r → Good s (says (name n) y) (n ++ r)
-  good-symbol n r y h k g =
-      good-token symbol n r (name n) y (some n h) (λ p. symbol-token n r p h k)
+  pub tells-symbol : (n r : List ℕ) (y : Said) → isSymbol n ≡ true → Sep r → Tells s y r → Tells s (says (name n) y) (n ++ r)
+  tells-symbol n r y h k g =
+      tells-token symbol n r (name n) y (some n h) (λ p. symbol-token n r p h k)
       (λ p e. ap (λ (l : List ℕ). name (take (length n) l)) e ∙ ap name (take-at n r (length n) refl)) g
 
-  pub good-integer : (z : ℤ) (r : List ℕ) (y : Said) → natAbs z < 2 ^ 127 → Sep r → Good s y r → Good s (says (number z) y) (decimalOf z ++ r)
-  good-integer z r y h k g = good-token (int z) (decimalOf z) r (number z) y (spelt-some z h) (λ p. integer-token z r p h k) (λ p e. refl) g
+  pub tells-integer : (z : ℤ) (r : List ℕ) (y : Said) → natAbs z < 2 ^ 127 → Sep r → Tells s y r → Tells s (says (number z) y) (decimalOf z ++ r)
+  tells-integer z r y h k g = tells-token (int z) (decimalOf z) r (number z) y (spelt-some z h) (λ p. integer-token z r p h k) (λ p e. refl) g
 
-  pub good-open : (l : List ℕ) (y : Said) → Clear l → Good s y l → Good s (says open-paren y) (40 ∷ l)
-  good-open l y h g = good-token lparen (40 ∷ []) l open-paren y (omega arith) (λ p. open-token l p h) (λ p e. refl) g
+  pub tells-open : (l : List ℕ) (y : Said) → Clear l → Tells s y l → Tells s (says open-paren y) (40 ∷ l)
+  tells-open l y h g = tells-token lparen (40 ∷ []) l open-paren y (omega arith) (λ p. open-token l p h) (λ p e. refl) g
 
-  pub good-close : (l : List ℕ) (y : Said) → Good s y l → Good s (says close-paren y) (41 ∷ l)
-  good-close l y g = good-token rparen (41 ∷ []) l close-paren y (omega arith) (close-token l) (λ p e. refl) g
+  pub tells-close : (l : List ℕ) (y : Said) → Tells s y l → Tells s (says close-paren y) (41 ∷ l)
+  tells-close l y g = tells-token rparen (41 ∷ []) l close-paren y (omega arith) (close-token l) (λ p e. refl) g
 
-  pub good-at : (l : List ℕ) (y : Said) → Good s y l → Good s (says at-sign y) (64 ∷ l)
-  good-at l y g = good-token at-token (64 ∷ []) l at-sign y (omega arith) (at-token-is l) (λ p e. refl) g
+  pub tells-at : (l : List ℕ) (y : Said) → Tells s y l → Tells s (says at-sign y) (64 ∷ l)
+  tells-at l y g = tells-token at-token (64 ∷ []) l at-sign y (omega arith) (at-token-is l) (λ p e. refl) g
 
-  pub good-space : (l : List ℕ) (y : Said) → Good s y l → Good s y (32 ∷ l)
-  good-space l y g = good-skip 32 l y (space-on l) g
+  pub tells-space : (l : List ℕ) (y : Said) → Tells s y l → Tells s y (32 ∷ l)
+  tells-space l y g = tells-skip 32 l y (space-on l) g
 
-  pub good-line : (l : List ℕ) (y : Said) → Good s y l → Good s y (10 ∷ l)
-  good-line l y g = good-skip 10 l y (line-on l) g
+  pub tells-line : (l : List ℕ) (y : Said) → Tells s y l → Tells s y (10 ∷ l)
+  tells-line l y g = tells-skip 10 l y (line-on l) g
 
-  pub good-spaces : (n : ℕ) (l : List ℕ) (y : Said) → Good s y l → Good s y (replicate n 32 ++ l)
-  good-spaces zero l y g = g
-  good-spaces (suc n) l y g = good-space (replicate n 32 ++ l) y (good-spaces n l y g)
+  pub tells-spaces : (n : ℕ) (l : List ℕ) (y : Said) → Tells s y l → Tells s y (replicate n 32 ++ l)
+  tells-spaces zero l y g = g
+  tells-spaces (suc n) l y g = tells-space (replicate n 32 ++ l) y (tells-spaces n l y g)
 
 -- the whole source
-pub whole : (s : List ℕ) (x : Said) → Good s x s → said s (tokensFrom (suc (length s)) s 0) ≡ x
-unfolding Good
+pub whole : (s : List ℕ) (x : Said) → Tells s x s → said s (tokensFrom (suc (length s)) s 0) ≡ x
+unfolding Tells
 whole s x g = g 0 (suc (length s)) (record { left = refl; bound = omega arith }) (omega arith)
