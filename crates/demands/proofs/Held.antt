@@ -94,7 +94,7 @@ module _ (s : List ℕ) (p : ℕ) where
   lasts (is t) h e =
       (omega arith, omega (arith, e .bound), ap (then t) (ap (events Blank p) (sym (e .left)) ∙ ap (λ (q : ℕ). events Blank q (drop q s)) (sym h)))
 
-whole : (st p : ℕ) → st ≤ p → st + (p - st) ≡ p
+pub whole : (st p : ℕ) → st ≤ p → st + (p - st) ≡ p
 whole st p h = omega arith
 
 -- the law of a mode, at every place where l is left
@@ -146,7 +146,7 @@ module _ (s : List ℕ) (st : ℕ) (minus : Bool) where
   signed-ends p (isInteger z) h = whole st p h
   signed-ends p noInteger h = tt
 
-  concluded-ends : (p : ℕ) (x : Reading) → st ≤ p → Ends p (concluded minus st p x)
+  pub concluded-ends : (p : ℕ) (x : Reading) → st ≤ p → Ends p (concluded minus st p x)
   unfolding Ends concluded
   concluded-ends p Empty h = tt
   concluded-ends p Foreign h = tt
