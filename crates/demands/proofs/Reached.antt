@@ -103,7 +103,7 @@ SoundIn Closed p = Unit {0}
 SoundIn (Refused r) p = Unit {0}
 
 -- of a state, and of the token that is handed out with it
-abbrev TokenAt : Reply → ℕ → Type 0
+abbrev pub TokenAt : Reply → ℕ → Type 0
 TokenAt more p = Unit {0}
 TokenAt finish p = Unit {0}
 TokenAt (ready t) p = past t ≡ p
