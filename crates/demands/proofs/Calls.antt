@@ -1,25 +1,22 @@
 -- The rules of a call hold. Assumes nothing.
-use mathlib.Core.Path.{_≡_, refl, sym, ap, _∙_, subst}
+use mathlib.Core.Path.{_≡_, refl, ap, _∙_, subst}
 use mathlib.Core.List.{List, [], _∷_}
-use mathlib.Core.Bool.{Bool, true, false, cond}
-use Prim.Native.Nat.{ℕ, zero, suc, _+_, _-_, _≤_, _<_}
+use Prim.Native.Nat.{ℕ, suc, _+_, _≤_, _<_}
 use native.Mathlib.Omega.{arith}
-use lib.Dec.{leb, ltb}
 use lib.ListN.{length, getD, take}
 use borrow.Author.Tests.{le-leb, lt-leb, lt-ltb}
 use Rattle.refusals.specs.Numbers.{sourceLimit, tooLong, fedAfterClose}
-use Rattle.classes.specs.Classes.{classOf, symbolOther, literalByte}
-use Rattle.lexer.specs.declared.literal.Reading.{Reading}
-use Rattle.lexer.specs.Tokens.{Token, token, past, rparen, at-sign, Answer, end, is, refused}
-use Rattle.lexer.specs.Literals.{grow, concluded}
+use Rattle.classes.specs.Classes.{classOf}
+use Rattle.lexer.specs.Tokens.{Token, past, Answer, end, is, refused}
+use Rattle.lexer.specs.Literals.{grow}
 use Rattle.feeder.specs.declared.Half.{Half}
 use Rattle.feeder.specs.declared.Mode.{Mode}
-use Rattle.feeder.specs.declared.Mode.the-variants.{Blank, Line, Opener, Symbol, Sign, Block, Zero, Digits}
+use Rattle.feeder.specs.declared.Mode.the-variants.{Blank, Symbol, Block, Digits}
 use Rattle.feeder.specs.declared.Phase.{Phase}
 use Rattle.feeder.specs.declared.Phase.the-variants.{Live, Closed, Refused}
 use Rattle.feeder.specs.declared.State.{State}
 use Rattle.feeder.specs.Machine.{closing, Turn, Go, Stay, Take, Halt, deeper, turn, step}
-use Rattle.feeder.specs.Feeding.{Reply, more, finish, ready, refuse, Fed, fed, live, closed, dead, freshState, plus, stepped, feedFrom, feedIn, feedOf, shut, closeIn, closeOf}
+use Rattle.feeder.specs.Feeding.{Reply, more, finish, ready, refuse, Fed, fed, live, closed, dead, plus, stepped, feedFrom, feedIn, feedOf, shut, closeIn, closeOf}
 use Rattle.demands.specs.Rules.{Unrefused, Reached, fresh, feeds, closes, Open, begins, goes-on, Moves, Raised, Rules}
 use Rattle.demands.proofs.Reached.{SoundIn, TokenAt, SoundFed, fed-sound, closed-sound, reached-sound}
 

@@ -1,9 +1,9 @@
 -- States reached from the fresh one: what is held began before the place, a token ends at it, and no more comments are open than bytes
 -- were consumed. Assumes nothing.
-use mathlib.Core.Path.{_≡_, refl, sym, ap, _∙_, subst}
+use mathlib.Core.Path.{_≡_}
 use mathlib.Core.List.{List, [], _∷_}
-use mathlib.Core.Bool.{Bool, true, false, cond}
-use Prim.Native.Nat.{ℕ, zero, suc, _+_, _-_, _≤_, _<_}
+use mathlib.Core.Bool.{Bool, true, false}
+use Prim.Native.Nat.{ℕ, suc, _+_, _≤_, _<_}
 use native.Mathlib.Omega.{arith}
 use lib.Dec.{eqb, leb, ltb}
 use borrow.Author.Tests.{leb-false}
@@ -14,9 +14,9 @@ use Rattle.classes.specs.declared.Class.the-variants.{Space, LineEnd, Semicolon
 use Rattle.classes.specs.Classes.{classOf, lineEnd, semicolon, rparen, symbolOther, literalByte}
 use Rattle.wide.specs.Value.{split}
 use Rattle.lexer.specs.declared.literal.Reading.{Reading}
-use Rattle.lexer.specs.declared.literal.Reading.the-variants.{Empty, Number}
-use Rattle.lexer.specs.Tokens.{Token, token, past, lparen, symbol, Answer, end, is, refused}
-use Rattle.lexer.specs.Literals.{grow, radixOf, concluded}
+use Rattle.lexer.specs.declared.literal.Reading.the-variants.{Number}
+use Rattle.lexer.specs.Tokens.{token, past, Answer, end, is, refused}
+use Rattle.lexer.specs.Literals.{radixOf, concluded}
 use Rattle.feeder.specs.declared.Half.{Half}
 use Rattle.feeder.specs.declared.Half.the-variants.{Clear, Semi, Paren}
 use Rattle.feeder.specs.declared.Mode.{Mode}
@@ -24,8 +24,8 @@ use Rattle.feeder.specs.declared.Mode.the-variants.{Blank, Line, Opener, Symbol
 use Rattle.feeder.specs.declared.Phase.{Phase}
 use Rattle.feeder.specs.declared.Phase.the-variants.{Live, Closed, Refused}
 use Rattle.feeder.specs.declared.State.{State}
-use Rattle.feeder.specs.Machine.{closing, Turn, Go, Stay, Take, Halt, ends, begun, half, out, deeper, inBlank, inBlock, inDigits, turn, step}
-use Rattle.feeder.specs.Feeding.{Reply, more, finish, ready, refuse, Fed, fed, live, closed, dead, freshState, plus, stepped, feedFrom, feedIn, feedOf, shut, closeIn, closeOf}
+use Rattle.feeder.specs.Machine.{closing, Turn, Go, Stay, Take, Halt, ends, begun, out, deeper, inBlank, inBlock, inDigits, turn, step}
+use Rattle.feeder.specs.Feeding.{Reply, more, finish, ready, refuse, Fed, stepped, feedFrom, feedIn, feedOf, shut, closeIn, closeOf}
 use Rattle.demands.specs.Rules.{Reached, fresh, feeds, closes}
 use Rattle.demands.proofs.Held.{Ends, whole, concluded-ends}
 

@@ -17,7 +17,7 @@ use Rattle.feeder.specs.declared.Mode.the-variants.{Blank, Line, Opener, Symbol
 use Rattle.feeder.specs.declared.Phase.the-variants.{Live}
 use Rattle.feeder.specs.declared.State.{State}
 use Rattle.feeder.specs.Machine.{Halt, step, deeper}
-use Rattle.feeder.specs.Feeding.{Reply, more, finish, ready, refuse, Fed, fed, live, closed, dead, freshState, feedOf, shut, closeOf}
+use Rattle.feeder.specs.Feeding.{Reply, more, finish, ready, refuse, fed, live, closed, dead, freshState, feedOf, shut, closeOf}
 
 abbrev pub Unrefused : Reply → Type 0
 Unrefused (refuse n a) = ⊥
