@@ -1,10 +1,8 @@
 -- Feeding in any pieces, then closing, hands out the uncut source's tokens. Assumes nothing.
-use mathlib.Core.Path.{_≡_, refl, sym, ap, _∙_, subst}
+use mathlib.Core.Path.{_≡_, refl, sym, ap, _∙_}
 use mathlib.Core.List.{List, [], _∷_, _++_}
-use mathlib.Core.Bool.{Bool, true, false, cond}
-use Prim.Native.Nat.{ℕ, zero, suc, _+_, _*_, _-_, _≤_, _<_}
+use Prim.Native.Nat.{ℕ, zero, suc, _+_, _*_, _≤_, _<_}
 use native.Mathlib.Omega.{arith}
-use lib.Dec.{leb}
 use lib.ListN.{drop, length, length-append}
 use borrow.Author.Tests.{lt-leb}
 use Rattle.refusals.specs.Numbers.{sourceLimit, fedAfterClose}
@@ -12,16 +10,16 @@ use Rattle.classes.specs.declared.Class.{Class}
 use Rattle.classes.specs.declared.Class.the-variants.{Space, LineEnd, Semicolon, LParen, RParen, AtSign, FormFeed, Minus, Digit, Other}
 use Rattle.classes.specs.Classes.{classOf}
 use Rattle.lexer.specs.Tokens.{Token, Answer, end, is, refused}
-use Rattle.lexer.specs.Streams.{Stream, done, stop, then, tokensOf}
+use Rattle.lexer.specs.Streams.{Stream, stop, then, tokensOf}
 use Rattle.feeder.specs.declared.Mode.{Mode}
 use Rattle.feeder.specs.declared.Mode.the-variants.{Blank, Line, Opener, Symbol, Sign, Block, Zero, Digits}
 use Rattle.feeder.specs.declared.Phase.{Phase}
 use Rattle.feeder.specs.declared.Phase.the-variants.{Live, Closed, Refused}
 use Rattle.feeder.specs.declared.State.{State}
 use Rattle.feeder.specs.Machine.{closing, Turn, Go, Stay, Take, Halt, inBlank, turn, step}
-use Rattle.feeder.specs.Feeding.{Reply, more, finish, ready, refuse, Fed, fed, live, closed, dead, freshState, plus, stepped, feedFrom, feedOf, shut, closeOf}
-use Rattle.demands.specs.Events.{last, follow, events}
-use Rattle.demands.specs.Driver.{after, drive, joined}
+use Rattle.feeder.specs.Feeding.{more, ready, refuse, Fed, fed, live, closed, dead, freshState, plus, stepped, feedFrom, feedOf, shut, closeOf}
+use Rattle.demands.specs.Events.{last, events}
+use Rattle.demands.specs.Driver.{after, driveBy, drive, joined}
 use Rattle.demands.proofs.Held.{again, over}
 use Rattle.demands.proofs.Uncut.{uncut}
 
@@ -56,7 +54,7 @@ feed-law [] r m p h = refl
 feed-law (b ∷ q) r m p h = rw (limited m p b (omega arith)) (feed-on (turn m p b) p b q r (λ k. feed-law q r k (suc p) (omega arith)))
 
 -- a token may be held
-abbrev held : Mode → ℕ
+abbrev pub held : Mode → ℕ
 held Blank = 0
 held Line = 1
 held (Opener st) = 1
@@ -142,17 +140,17 @@ fair (b ∷ q) m p h =
     rw (limited m p b (omega arith), ← e) (fair-on (turn m p b) (held m) p b q (hands m p b) (λ k. fair q k (suc p) (omega arith)))
 
 -- the calls that a host makes at most
-abbrev callsAtMost : Mode → List (List ℕ) → ℕ
+abbrev pub callsAtMost : Mode → List (List ℕ) → ℕ
 callsAtMost m ps = held m + 2 * length (joined ps) + length ps + 1
 
 closes : (n p : ℕ) (a : Answer) → after (shut a p .reply) (stop 0 0) (drive (suc n) (shut a p .state) []) ≡ last a
-unfolding drive closeOf
+unfolding driveBy closeOf
 closes n p end = refl
 closes n p (is t) = refl
 closes n p (refused k a) = refl
 
 -- the law of the calls that are left
-abbrev Rest : ℕ → Type 0
+abbrev pub Rest : ℕ → Type 0
 Rest n = (m : Mode) (p : ℕ) (ps : List (List ℕ)) → p + length (joined ps) ≤ sourceLimit → callsAtMost m ps < n → drive n (live m p) ps ≡ events m p (joined ps)
 
 drive-on : (n e h : ℕ) (q : List ℕ) (ps : List (List ℕ)) (f : Fed) → Fair e h q f → Rest n → e + length (joined ps) ≤ sourceLimit → h + 2 * length (q ++ joined ps) + length ps + 1 < n
@@ -164,7 +162,7 @@ drive-on n e h q ps f refuses ih l c = refl
 
 -- from any live state on, however the rest is cut
 pub driven : (n : ℕ) → Rest n
-unfolding drive closeOf feedOf events
+unfolding driveBy closeOf feedOf events
 driven zero m p ps l c = absurd (omega arith)
 driven (suc zero) m p [] l c = absurd (omega arith)
 driven (suc (suc n)) m p [] l c = closes n p (closing m p)

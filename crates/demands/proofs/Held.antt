@@ -1,11 +1,11 @@
 -- The machine while it holds a symbol or a literal: it hands out what uncut lexing reads from the same place. Assumes nothing.
-use mathlib.Core.Path.{_≡_, refl, sym, ap, _∙_, subst}
+use mathlib.Core.Path.{_≡_, refl, sym, ap, _∙_}
 use mathlib.Core.List.{List, [], _∷_}
 use mathlib.Core.Bool.{Bool, true, false, cond, _&&_, _||_}
-use Prim.Native.Nat.{ℕ, zero, suc, _+_, _-_, _≤_, _<_}
+use Prim.Native.Nat.{ℕ, suc, _+_, _-_, _≤_, _<_}
 use native.Mathlib.Omega.{arith}
 use lib.Dec.{eqb, leb}
-use lib.ListN.{drop, getD, length, length-drop}
+use lib.ListN.{drop, length, length-drop}
 use borrow.Author.Tests.{eqb-true, leb-true, le-leb}
 use Rattle.lists.proofs.Places.{next as next-place}
 use Rattle.lists.proofs.Choice.{pick, and-right, or-right, true-false}
@@ -16,13 +16,13 @@ use Rattle.classes.specs.Classes.{classOf, symbolOther, digitOf, literalByte}
 use Rattle.wide.specs.Value.{Integer, is as isInteger, refused as noInteger, integerOf, val, split, grown}
 use Rattle.lexer.specs.declared.literal.Reading.{Reading}
 use Rattle.lexer.specs.declared.literal.Reading.the-variants.{Empty, Foreign, Over, Number}
-use Rattle.lexer.specs.Tokens.{Token, token, past, symbol, Answer, end, is, refused}
+use Rattle.lexer.specs.Tokens.{token, past, symbol, Answer, end, is, refused}
 use Rattle.lexer.specs.Literals.{taken, grow, reading, literalEnd, radixOf, signed, concluded, digitsIn, unsignedIn}
 use Rattle.lexer.specs.Lexing.{symbolEnd}
 use Rattle.lexer.specs.Streams.{Stream, done, stop, then}
 use Rattle.feeder.specs.declared.Mode.{Mode}
 use Rattle.feeder.specs.declared.Mode.the-variants.{Blank, Symbol, Sign, Zero, Digits}
-use Rattle.feeder.specs.Machine.{closing, Turn, Go, Stay, Take, Halt, ends, begun, inBlank, inDigits, turn}
+use Rattle.feeder.specs.Machine.{closing, Turn, Go, Stay, Halt, ends, begun, inBlank, inDigits, turn}
 use Rattle.demands.specs.Events.{last, follow, events}
 
 -- l is what is left of s at p
@@ -94,7 +94,7 @@ module _ (s : List ℕ) (p : ℕ) where
   lasts (is t) h e =
       (omega arith, omega (arith, e .bound), ap (then t) (ap (events Blank p) (sym (e .left)) ∙ ap (λ (q : ℕ). events Blank q (drop q s)) (sym h)))
 
-whole : (st p : ℕ) → st ≤ p → st + (p - st) ≡ p
+pub whole : (st p : ℕ) → st ≤ p → st + (p - st) ≡ p
 whole st p h = omega arith
 
 -- the law of a mode, at every place where l is left
@@ -146,7 +146,7 @@ module _ (s : List ℕ) (st : ℕ) (minus : Bool) where
   signed-ends p (isInteger z) h = whole st p h
   signed-ends p noInteger h = tt
 
-  concluded-ends : (p : ℕ) (x : Reading) → st ≤ p → Ends p (concluded minus st p x)
+  pub concluded-ends : (p : ℕ) (x : Reading) → st ≤ p → Ends p (concluded minus st p x)
   unfolding Ends concluded
   concluded-ends p Empty h = tt
   concluded-ends p Foreign h = tt

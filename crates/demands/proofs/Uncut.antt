@@ -1,11 +1,11 @@
 -- The machine hands out the tokens of the uncut source. Assumes nothing.
 use mathlib.Core.Path.{_≡_, refl, sym, ap, _∙_, subst}
 use mathlib.Core.List.{List, [], _∷_}
-use mathlib.Core.Bool.{Bool, true, false, cond, _&&_}
+use mathlib.Core.Bool.{Bool, true, false, cond}
 use Prim.Native.Nat.{ℕ, zero, suc, _+_, _-_, _≤_, _<_}
 use native.Mathlib.Omega.{arith}
 use native.Mathlib.Numerals.{add-one}
-use lib.Dec.{leb, ltb}
+use lib.Dec.{leb}
 use lib.ListN.{drop, getD, length, drop-of-length-le}
 use borrow.Author.Tests.{lt-ltb, le-ltb}
 use Rattle.refusals.specs.Numbers.{sourceLimit}
@@ -13,12 +13,11 @@ use Rattle.classes.specs.declared.Class.{Class}
 use Rattle.classes.specs.declared.Class.the-variants.{Space, LineEnd, Semicolon, LParen, RParen, AtSign, FormFeed, Minus, Digit, Other}
 use Rattle.classes.specs.Classes.{classOf, lineEnd, semicolon, rparen}
 use Rattle.lexer.specs.Tokens.{Token, token, past, lparen as openParen, rparen as closeParen, at-sign, Answer, end, is, refused}
-use Rattle.lexer.specs.Lexing.{Skip, Between, InLine, InBlock, Skipping, Stop, One, Two, leave, skip, skipped, tokenIn, lexIn, lexAt, nextToken}
-use Rattle.lexer.specs.Streams.{Stream, done, stop, then, onward, tokensFrom}
-use Rattle.feeder.specs.declared.Mode.{Mode}
+use Rattle.lexer.specs.Lexing.{Skip, Between, InLine, InBlock, Stop, One, Two, leave, skip, skipped, tokenIn, lexIn, lexAt, nextToken}
+use Rattle.lexer.specs.Streams.{Stream, then, onward, tokensFrom}
 use Rattle.feeder.specs.declared.Mode.the-variants.{Blank, Line, Opener, Block}
 use Rattle.feeder.specs.declared.Half.the-variants.{Clear, Semi, Paren}
-use Rattle.feeder.specs.Machine.{closing, Turn, Go, Stay, half, out, deeper, inBlank, inBlock, turn}
+use Rattle.feeder.specs.Machine.{closing, Go, Stay, half, out, deeper, inBlank, turn}
 use Rattle.demands.specs.Events.{events}
 use Rattle.demands.proofs.Held.{At, inside, next, After, weaken, over, Ends, stays, lasts, in-symbol, digit-literal, begins, after-sign}
 
