@@ -1,13 +1,13 @@
 -- `feeder::runs::in_opener`: `(;` or a `(` that is handed out.
 use mathlib.Core.Path.{_≡_, refl, sym, _∙_}
-use mathlib.Core.Bool.{false}
+use mathlib.Core.Bool.{true, false}
 use native.Mathlib.Omega.{arith}
-use borrow.Author.Tests.{ne-eqb}
+use borrow.Author.Tests.{eq-eqb, ne-eqb}
 use lib.ListN.{getD}
 use denote.Ref.{now}
 use Rattle.classes.specs.Classes.{classOf, semicolon}
 use Rattle.classes.proofs.Signs.{is-semicolon}
-use Rattle.feeder.specs.Machine.{Opener, turn}
+use Rattle.feeder.specs.Machine.{Opener, Block, Clear, turn}
 use Rattle.feeder.proofs.Calls.{call-go, call-stay}
 use borrow.Author.Needs.{needs}
 use Rattle.feeder.proofs.runs.in_opener.Statement.{statement}
@@ -23,8 +23,9 @@ returns : tie.Need-returns
 unfolding turn
 returns c = 
     let a = c .before .before .args in
-    let f : getD (now (a .piece)) (a .i) 0 ≡ 59 = c .if1 .taken in
-    ((omega arith, omega arith), sym (call-go (now (a .piece)) (a .place) (a .i) (Opener (a .start)) (omega arith) (omega arith) _ (unfold classOf in rw f refl)))
+    let f : semicolon (classOf (getD (now (a .piece)) (a .i) 0)) ≡ true =
+        sym (is-semicolon (getD (now (a .piece)) (a .i) 0) ((c .before .shared-slice-known .given (a .i)) .fits)) ∙ eq-eqb _ _ (c .if1 .taken) in
+    ((omega arith, omega arith), sym (call-go (now (a .piece)) (a .place) (a .i) (Opener (a .start)) (omega arith) (omega arith) (Block (a .start) 1 Clear) (rw f refl)))
 
 returns-2 : tie.Need-returns-2
 unfolding turn
