@@ -1,8 +1,10 @@
 -- Numbers as bytes, little-endian (document 01, 'Trees and their table').
 use Prim.Native.Nat.{ℕ, zero, suc, _+_, _*_, _/_, _%_}
+use mathlib.Core.Bool.{cond}
 use mathlib.Core.List.{List, [], _∷_}
-use lib.IntN.{ℤ}
-use lib.ListN.{take, drop}
+use lib.Dec.{leb}
+use lib.IntN.{ℤ, pos}
+use lib.ListN.{length, take, drop}
 use mir.Syntax.{w128}
 use mir.Val.{ofZ, toZ}
 
@@ -26,3 +28,10 @@ wideBytes z = le 16 (ofZ w128 z)
 
 abbrev pub integerAt : List ℕ → ℕ → ℤ
 integerAt t p = toZ w128 (numberAt 16 t p)
+
+-- the same for a reader that may be asked for bytes past the end: 0 where fewer are left
+abbrev pub numberIn : ℕ → List ℕ → ℕ → ℕ
+numberIn k t p = cond (leb (p + k) (length t)) (numberAt k t p) 0
+
+abbrev pub wideIn : List ℕ → ℕ → ℤ
+wideIn t p = cond (leb (p + 16) (length t)) (integerAt t p) (pos 0)

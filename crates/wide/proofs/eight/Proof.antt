@@ -1,0 +1,31 @@
+-- `wide::eight`: two numbers of four bytes.
+use native.Mathlib.Omega.{arith}
+use denote.Ref.{now}
+use Rattle.wide.proofs.Numbers.{number-eight}
+use borrow.Author.Needs.{needs}
+use Rattle.wide.proofs.eight.Statement.{statement}
+use Rattle.wide.proofs.eight.Tie as tie
+
+four-requires : tie.Need-four-requires
+four-requires c κs = search needs
+
+add-four : tie.Need-add-four
+add-four c = search needs
+
+four-requires-2 : tie.Need-four-requires-2
+four-requires-2 c κs = search needs
+
+mul-result : tie.Need-mul-result
+mul-result c = search needs
+
+add-result : tie.Need-add-result
+add-result c = search needs
+
+returns : tie.Need-returns
+returns c =
+    let a = c .before .before .before .args in
+    omega (arith, number-eight (now (a .t)) (a .at) (c .before .before .before .pre), c .four2 .ensures .0, c .before .four .ensures .0)
+
+pub eight-spec : {M : Type 1} → statement M
+eight-spec =
+    tie.close (tie.spec four-requires add-four four-requires-2 mul-result add-result returns)
