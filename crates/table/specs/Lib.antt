@@ -1,3 +1,4 @@
 pub mod Trees
 pub mod Records
 pub mod Decoding
+pub mod Printable
