@@ -62,10 +62,13 @@ items-hold t w d hf (suc n) p hp = first (treeAt t w d p) (hf p hp) (items-hold 
   where
     last : (x : Tree) (q : ℕ) → Holds t w d p (found x q) → (y : Found Trees) → HoldAll t w d n q y
         → HoldAll t w d (suc n) p (andThen y (λ xs r. found (more x xs) r))
-    last x q g (found xs r) h =
-        (stands-join t p (records x) (recordsOf xs) (g .0) (subst (λ (k : ℕ). Stands t k (recordsOf xs)) (g .1) (h .0)),
-        h .1 ∙ ap (λ (k : ℕ). k + length (recordsOf xs)) (g .1) ∙ simp length-append (omega arith),
-        (g .2, h .2), (λ e. ((g .3) e, (h .3) e)), ap suc (h .4))
+    last x q g (found xs r) h = (
+      stands-join t p (records x) (recordsOf xs) (g .0) (subst (λ (k : ℕ). Stands t k (recordsOf xs)) (g .1) (h .0)),
+      h .1 ∙ ap (λ (k : ℕ). k + length (recordsOf xs)) (g .1) ∙ simp length-append (omega arith),
+      (g .2, h .2),
+      (λ e. ((g .3) e, (h .3) e)),
+      ap suc (h .4),
+    )
     last x q g (refused k a) h = tt
 
     first : (y : Found Tree) → Holds t w d p y → ((q : ℕ) → q ≤ length t → HoldAll t w d n q (itemsAt (treeAt t w d) n q))
@@ -89,19 +92,24 @@ unfolding records Good Printable
 record-hold t w d p o f hb hp ho hf hs Bad hx = tt
 record-hold t w d p o f hb hp ho hf hs (Symbol len) hx =
     pick (Holds t w d p) (isSymbol (payload t p len))
-    (λ e. (record-stands t p 1 len hb (omega arith) (hx .2) (sym (hx .0)) (hx .1),
-    sym (ap (λ (k : ℕ). p + k) (named-size t p len hb (hx .0) (hx .2) (hx .3) hp 1)),
-    (e, named-small t p len hb (hx .0) (hx .2) (hx .3) hp), (λ _. tt))) (λ _. tt)
+    (λ e. (
+      record-stands t p 1 len hb (omega arith) (hx .2) (sym (hx .0)) (hx .1),
+      sym (ap (λ (k : ℕ). p + k) (named-size t p len hb (hx .0) (hx .2) (hx .3) hp 1)),
+      (e, named-small t p len hb (hx .0) (hx .2) (hx .3) hp),
+      (λ _. tt),
+    )) (λ _. tt)
 record-hold t w d p o f hb hp ho hf hs Integer hx =
     pick (Holds t w d p) (w && isLowest t p) (λ _. tt)
     (λ e.
     let n : ℕ = numberAt 16 t (p + 6) in
     let bits : n < 2 ^ 128 = part-lt t (p + 6) 16 hb (omega arith) in
     let same : payload t p 22 ≡ wideBytes (toZ w128 n) =
-    sym (bytes-back (payload t p 22) (bytes-part t hb 16 (p + 6) (omega arith)) (part-size t (p + 6) 16 (omega arith))) in
-    (subst (λ (bs : List ℕ). Stands t p (record-of 2 bs)) same (record-stands t p 2 22 hb (omega arith) (omega arith) (hx .0) (hx .1)),
-    rw (length-record 2 (wideBytes (toZ w128 n)), wide-length (toZ w128 n)) refl,
-    range-bits n bits, not-lowest w n bits e))
+    sym (bytes-back (payload t p 22) (bytes-part t hb 16 (p + 6) (omega arith)) (part-size t (p + 6) 16 (omega arith))) in (
+      subst (λ (bs : List ℕ). Stands t p (record-of 2 bs)) same (record-stands t p 2 22 hb (omega arith) (omega arith) (hx .0) (hx .1)),
+      rw (length-record 2 (wideBytes (toZ w128 n)), wide-length (toZ w128 n)) refl,
+      range-bits n bits,
+      not-lowest w n bits e,
+    ))
 record-hold t w d p true f hb hp ho hf hs (Binding len) hx =
     pick (Holds t w d p) (isSymbol (payload t p len)) (λ e. sub (f (p + len)) e (hf refl (p + len) (omega arith))) (λ _. tt)
   where
@@ -111,10 +119,13 @@ record-hold t w d p true f hb hp ho hf hs (Binding len) hx =
     sub : (y : Found Tree) → isSymbol (payload t p len) ≡ true → Holds t w (d - 1) (p + len) y
         → Holds t w d p (andThen y (λ x q. found (binding (payload t p len) x) q))
     sub (refused n a) e h = tt
-    sub (found x q) e h =
-        (stands-join t p (record-of 3 (payload t p len)) (records x) (record-stands t p 3 len hb (omega arith) (hx .2) (sym (hx .0)) (hx .1))
-        (subst (λ (k : ℕ). Stands t (p + k) (records x)) (sym size) (h .0)),
-        h .1 ∙ simp length-append (omega (arith, size)), (ho refl, e, named-small t p len hb (hx .0) (hx .2) (hx .3) hp, h .2), h .3)
+    sub (found x q) e h = (
+      stands-join t p (record-of 3 (payload t p len)) (records x) (record-stands t p 3 len hb (omega arith) (hx .2) (sym (hx .0)) (hx .1))
+          (subst (λ (k : ℕ). Stands t (p + k) (records x)) (sym size) (h .0)),
+      h .1 ∙ simp length-append (omega (arith, size)),
+      (ho refl, e, named-small t p len hb (hx .0) (hx .2) (hx .3) hp, h .2),
+      h .3,
+    )
 record-hold t w d p false f hb hp ho hf hs (Binding len) hx = tt
 record-hold t w d p true f hb hp ho hf hs (ListOf n) hx = sub (itemsAt f n (p + 10)) (hs refl n (p + 10) (omega arith))
   where
@@ -127,10 +138,12 @@ record-hold t w d p true f hb hp ho hf hs (ListOf n) hx = sub (itemsAt f n (p + 
         let s : Stands t p (record-of 4 (le 4 (count xs))) =
         subst (λ (k : ℕ). Stands t p (record-of 4 (le 4 k))) (sym (h .4))
         (subst (λ (bs : List ℕ). Stands t p (record-of 4 bs)) four (record-stands t p 4 10 hb (omega arith) (omega arith) (hx .1) (hx .2))) in
-        let z : length (record-of 4 (le 4 (count xs))) ≡ 10 = rw (length-record 4 (le 4 (count xs)), le-length 4 (count xs)) refl in
-        (stands-join t p (record-of 4 (le 4 (count xs))) (recordsOf xs) s (subst (λ (k : ℕ). Stands t (p + k) (recordsOf xs)) (sym z) (h .0)),
-        h .1 ∙ simp length-append (omega (arith, z)),
-        (ho refl, subst (λ (k : ℕ). k < 2 ^ 32) (sym (hx .0) ∙ sym (h .4)) (part-lt t (p + 6) 4 hb (omega arith)), h .2), h .3)
+        let z : length (record-of 4 (le 4 (count xs))) ≡ 10 = rw (length-record 4 (le 4 (count xs)), le-length 4 (count xs)) refl in (
+          stands-join t p (record-of 4 (le 4 (count xs))) (recordsOf xs) s (subst (λ (k : ℕ). Stands t (p + k) (recordsOf xs)) (sym z) (h .0)),
+          h .1 ∙ simp length-append (omega (arith, z)),
+          (ho refl, subst (λ (k : ℕ). k < 2 ^ 32) (sym (hx .0) ∙ sym (h .4)) (part-lt t (p + 6) 4 hb (omega arith)), h .2),
+          h .3,
+        )
 record-hold t w d p false f hb hp ho hf hs (ListOf n) hx = tt
 
 pub tree-holds : (t : List ℕ) → Bytes t → (w : Bool) (d p : ℕ) → p ≤ length t → Holds t w d p (treeAt t w d p)

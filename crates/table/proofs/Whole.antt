@@ -9,6 +9,7 @@ use lib.ListN.{length, drop, length-append, drop-of-length-le}
 use lib.Dec.{ltb}
 use borrow.Author.Tests.{lt-ltb, le-ltb, ltb-false}
 use Rattle.refusals.specs.Numbers.{tableLimit, depthLimit, tooLong}
+use Rattle.lists.proofs.Choice.{true-false}
 use Rattle.wide.proofs.Numbers.{Bytes}
 use Rattle.table.specs.Trees.{Tree, Trees, none, more, Good, Goods, records, recordsOf}
 use Rattle.table.specs.Decoding.{Found, found, refused, andThen, treeAt, treesAt, tableOf}
@@ -66,9 +67,13 @@ whole-holds t hb w (suc k) p hp h = at-end (ltb p (length t)) refl (whole-holds 
     last : (x : Tree) (q : ℕ) → Holds t w depthLimit p (found x q) → (y : Found Trees) → AllOf t w q y
         → AllOf t w p (andThen y (λ xs r. found (more x xs) r))
     last x q g (refused n a) hy = tt
-    last x q g (found xs r) hy =
-        (stands-join t p (records x) (recordsOf xs) (g .0) (subst (λ (k : ℕ). Stands t k (recordsOf xs)) (g .1) (hy .0)),
-        simp length-append (omega (arith, hy .1, g .1)), hy .2, (g .2, hy .3), (λ e. ((g .3) e, (hy .4) e)))
+    last x q g (found xs r) hy = (
+      stands-join t p (records x) (recordsOf xs) (g .0) (subst (λ (k : ℕ). Stands t k (recordsOf xs)) (g .1) (hy .0)),
+      simp length-append (omega (arith, hy .1, g .1)),
+      hy .2,
+      (g .2, hy .3),
+      (λ e. ((g .3) e, (hy .4) e)),
+    )
 
     first : (y : Found Tree) → Holds t w depthLimit p y → ((q : ℕ) → q ≤ length t → length t < k + q → AllOf t w q (treesAt t w k q))
         → AllOf t w p (andThen y (λ x q. andThen (treesAt t w k q) (λ xs r. found (more x xs) r)))
@@ -100,9 +105,17 @@ sound w t xs q hb e = by (ltb tableLimit (length t)) refl e
         let h : AllOf t w 0 (found xs q) = subst (AllOf t w 0) k (whole-holds t hb w (length t + 1) 0 (omega arith) (omega arith)) in
         record {
           is = h .0 ∙ ap (λ (r : List ℕ). recordsOf xs ++ r) (drop-of-length-le t {i = 0 + length (recordsOf xs)} (omega (arith, h .1)))
-          ∙ append-nil (recordsOf xs);
+              ∙ append-nil (recordsOf xs);
           past = h .2;
           good = h .3;
           printable = h .4;
           small = ltb-false tableLimit (length t) f;
         }
+
+-- two files of good trees with one table are one
+pub one-file : (xs ys : Trees) → Goods xs depthLimit → Goods ys depthLimit → length (recordsOf xs) ≤ tableLimit → recordsOf xs ≡ recordsOf ys → xs ≡ ys
+one-file xs ys g k h e =
+    let l : length (recordsOf ys) ≤ tableLimit = rw (← e) h in
+    let f : found xs (length (recordsOf xs)) ≡ found ys (length (recordsOf ys)) =
+    sym (complete false xs g (λ z. true-false (sym z)) h) ∙ ap (tableOf false) e ∙ complete false ys k (λ z. true-false (sym z)) l in
+    cc
