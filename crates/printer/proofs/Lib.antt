@@ -5,3 +5,5 @@ pub mod Entries
 pub mod Dues
 pub mod Rooms
 pub mod Spaces
+pub mod Bounds
+pub mod Laying
