@@ -5,12 +5,17 @@ use mathlib.Core.List.{List, [], _∷_, _++_}
 use Prim.Native.Nat.{ℕ, suc, _+_, _*_, _-_, _≤_, _<_}
 use native.Mathlib.Omega.{arith}
 use lib.Dec.{eqb}
+use lib.IntN.{ℤ}
 use lib.ListN.{length, length-append, take, drop}
 use borrow.Author.Tests.{le-leb}
 use borrow.Rule.Slice.PartMut.{putMid}
 use Rattle.lists.specs.Over.{over, fitted}
 use Rattle.lists.proofs.Writing.{Wrote}
-use Rattle.table.specs.Trees.{Tree, Trees, binding, list}
+use Rattle.wide.specs.Bytes.{integerAt}
+use Rattle.wide.specs.Decimal.{decimalOf}
+use Rattle.table.specs.Trees.{Tree, Trees, symbol, integer, binding, list}
+use Rattle.table.specs.Records.{payload}
+use Rattle.table.proofs.Checking.{part}
 use Rattle.table.specs.Decoding.{Found, found, itemsAt, treeAt}
 use Rattle.printer.specs.Layout.{Wrapping, Put, bytes, column, put, next, named, wrapped, gap, inner, lay, items}
 use Rattle.printer.specs.Code.{Right, treeOf, treesOf, nextOf, Filled, Laid, closing}
@@ -25,7 +30,7 @@ Output y m w i c q len col b b′ = Laid y m w i c q len col × Filled (bytes (l
 
 -- ---- atoms
 
-pub atom : (y : Found Tree) (m : Wrapping) (w i c : ℕ) (x : Tree) (q n : ℕ) (o o′ b b′ : List ℕ) → y ≡ found x q → lay x m w i c ≡ put o c → o′ ≡ o → n ≡ length o′ → Filled o′ b b′
+atom : (y : Found Tree) (m : Wrapping) (w i c : ℕ) (x : Tree) (q n : ℕ) (o o′ b b′ : List ℕ) → y ≡ found x q → lay x m w i c ≡ put o c → o′ ≡ o → n ≡ length o′ → Filled o′ b b′
     → Output y m w i c q n (c + n) b b′
 atom y m w i c x q n o o′ b b′ ey ex eo en f =
     let k : n ≡ length o = en ∙ ap length eo in
@@ -33,8 +38,18 @@ atom y m w i c x q n o o′ b b′ ey ex eo en f =
     (subst⁻¹ (λ (p : Put). ((q ≡ q) × (n ≡ length (bytes p)) × (c + n ≡ column p)) × Filled (bytes p) b b′) ex
     ((refl, k, ap (λ (j : ℕ). c + j) k), subst (λ (r : List ℕ). Filled r b b′) eo f))
 
-pub fitted-filled : (o b b′ : List ℕ) → b′ ≡ fitted o b → Filled o b b′
-fitted-filled o b b′ e = λ l. e ∙ rw (le-leb (length o) (length b) l) refl
+pub symbol-out : (t : List ℕ) (d at len : ℕ) (m : Wrapping) (w i c n : ℕ) (b b′ : List ℕ) → treeAt t true d at ≡ found (symbol (payload t at len)) (at + len)
+    → n ≡ length (take (at + len - (at + 6)) (drop (at + 6) t)) → Filled (take (at + len - (at + 6)) (drop (at + 6) t)) b b′ → Output (treeAt t true d at) m w i c (at + len) n (c + n) b b′
+unfolding lay
+symbol-out t d at len m w i c n b b′ e en f =
+    atom (treeAt t true d at) m w i c (symbol (payload t at len)) (at + len) n (payload t at len) _ b b′ e refl (part t at len) en f
+
+pub integer-out : (t : List ℕ) (d at : ℕ) (z : ℤ) (m : Wrapping) (w i c n : ℕ) (b b′ : List ℕ) → treeAt t true d at ≡ found (integer (integerAt t (at + 6))) (at + 22) → z ≡ integerAt t (at + 6)
+    → n ≡ length (decimalOf z) → b′ ≡ fitted (decimalOf z) b → Output (treeAt t true d at) m w i c (at + 22) n (c + n) b b′
+unfolding lay
+integer-out t d at z m w i c n b b′ e ez en f =
+    atom (treeAt t true d at) m w i c (integer (integerAt t (at + 6))) (at + 22) n (decimalOf (integerAt t (at + 6))) (decimalOf z) b b′ e refl (ap decimalOf ez) en
+    (λ l. f ∙ rw (le-leb (length (decimalOf z)) (length b) l) refl)
 
 -- ---- a binding
 
@@ -144,6 +159,9 @@ module _ {t : List ℕ} {at d w ind c₀ n : ℕ} {m : Wrapping} {b₀ b : List 
         last = lay-col (treeOf (treeAt t true (d - 1) p)) m w j k;
         step = omega (arith, inner-le (eqb i 0) m ind);
       }
+
+  pub so-far : len ≤ length (bytes (listed t at d n m w ind c₀))
+  so-far = omega (arith, h .size, ap length (h .going .text) ∙ length-append (h .o) _)
 
   -- one item more, behind its gap: both were put into the rest of the room
   pub laying-step : i < n → (gl j k r₁ r₂ q il col : ℕ) (ys zs : List ℕ) → gl ≡ length (bytes (gap (eqb i 0) m ind c)) → k ≡ column (gap (eqb i 0) m ind c) → j ≡ inner (eqb i 0) m ind
