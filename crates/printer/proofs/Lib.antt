@@ -7,3 +7,4 @@ pub mod Rooms
 pub mod Spaces
 pub mod Bounds
 pub mod Laying
+pub mod Pages

@@ -76,6 +76,9 @@ Ready t d at m w i c =
     (at ≤ length t) × (length t ≤ tableLimit) × (i + d ≤ depthLimit) × Right (treeAt t true d at)
     × (c + length (bytes (lay (treeOf (treeAt t true d at)) m w i c)) ≤ 4294967296)
 
--- a tree and its LF, and the LF between it and one before it
+-- the LF between two trees; a tree and its LF, behind it
+abbrev pub between : Bool → List ℕ
+between later = cond later (10 ∷ []) []
+
 abbrev pub framed : Bool → Tree → ℕ → List ℕ
-framed later x w = cond later (10 ∷ []) [] ++ (bytes (lay x Wrap w 0 0) ++ (10 ∷ []))
+framed later x w = between later ++ (bytes (lay x Wrap w 0 0) ++ (10 ∷ []))

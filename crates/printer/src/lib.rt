@@ -12,7 +12,7 @@ ghost use Rattle.table.specs.Records.{recordAt, payload};
 ghost use Rattle.table.specs.Decoding.{treeAt, tableOf};
 ghost use Rattle.printer.specs.Layout.{Wrap as wrap, bytes, column as columnOf, nl as nlOf, gap as gapOf, inner, named, lay, page};
 ghost use Rattle.printer.specs.Printing.{printing, printedInto, printOf};
-ghost use Rattle.printer.specs.Code.{Right, treeOf, treesOf, nextOf, entryOf, fitOf, Filled, Laid, Chosen, closing, Ready, framed};
+ghost use Rattle.printer.specs.Code.{Right, treeOf, treesOf, nextOf, entryOf, fitOf, Filled, Laid, Chosen, closing, Ready, between, framed};
 
 // A list is laid on a single line, or tested.
 pub enum Wrapping {
@@ -365,6 +365,16 @@ fn print_wrapped(t: &[u8], at: usize, depth: usize, mode: Wrapping, width: usize
     }
 }
 
+// The LF between two trees.
+fn put_between(later: bool, out: &mut [u8]) -> usize
+    ensures { λ r. ⌜ (r ≡ length (between later)) × Filled (between later) (now (out .entry)) (now (out .exit)) ⌝ }
+{
+    if later {
+        return put_byte(b'\n', out);
+    }
+    0
+}
+
 struct Line {
     next: usize,
     len: usize,
@@ -377,10 +387,7 @@ fn print_node(t: &[u8], at: usize, width: usize, out: &mut [u8]) -> Line
         × (r .len ≡ length (framed (ltb 0 at) (treeOf (treeAt (now (t .entry)) true depthLimit at)) width))
         × Filled (framed (ltb 0 at) (treeOf (treeAt (now (t .entry)) true depthLimit at)) width) (now (out .entry)) (now (out .exit)) ⌝ }
 {
-    let mut w = 0;
-    if 0 < at {
-        w = put_byte(b'\n', out);
-    }
+    let w = put_between(0 < at, out);
     let rest = least(w, out.len());
     let tree = print_wrapped(t, at, refusals::DEPTH_LIMIT, Wrapping::Wrap, width, 0, 0, &mut out[rest..]);
     let end = w + tree.len;
