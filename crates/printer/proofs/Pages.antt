@@ -176,10 +176,10 @@ module _ {t : List ℕ} {w : ℕ} {b₀ b : List ℕ} {n p : ℕ} (h : Pages t w
 
 -- ---- the answer
 
--- a room of no bytes was lent, and nothing else
-pub none-lent : (b ys : List ℕ) → length ys ≡ 0 → putMid 0 0 b ys ≡ b
-none-lent b [] e = refl
-none-lent b (y ∷ ys) e = absurd (omega arith)
+-- a room of no bytes was lent
+pub none-lent : (ys b : List ℕ) → length ys ≡ 0 → ys ++ b ≡ b
+none-lent [] b e = refl
+none-lent (y ∷ ys) b e = absurd (omega arith)
 
 abbrev Answer : List ℕ → ℕ → List ℕ → List ℕ → Printed → Type 0
 Answer t w b b′ r = (printOf r ≡ printing t w (length b)) × (b′ ≡ printedInto t w b)
@@ -215,5 +215,6 @@ module _ (t : List ℕ) (n w : ℕ) (b : List ℕ) (r : Right (tableOf true t)) 
       let k : length (page xs w) ≤ length b = omega arith in
       rw (ey, le-leb (length (page xs w)) (length b) k) (ap text f, g k)
 
-  pub print-text : n ≤ length b → (b′ : List ℕ) → Filled (page (treesOf (tableOf true t)) w) b b′ → Answer t w b b′ (Text n)
-  print-text l b′ g = text-of (tableOf true t) r e refl l b′ g
+  -- b₁ is the room after it was measured
+  pub print-text : n ≤ length b → (b₁ b′ : List ℕ) → b₁ ≡ b → Filled (page (treesOf (tableOf true t)) w) b₁ b′ → Answer t w b b′ (Text n)
+  print-text l b₁ b′ eb g = text-of (tableOf true t) r e refl l b′ (subst (λ (v : List ℕ). Filled (page (treesOf (tableOf true t)) w) v b′) eb g)
