@@ -245,11 +245,11 @@ calls = record {
   consumed = λ n s r. (consumed-of n s r, omega (arith, reached-sound n s r .bound, consumed-of n s r));
   empty = λ n s o. empty-in (s .phase) (s .place) (open-live n s o);
   token-end = λ n s q t r e.
-    let w = reached-sound n s r in
-    token-of (feedOf s q) t (fed-sound (s .phase) (s .place) q (w .phase-is) (w .bound)) e ∙ place-in (s .phase) (s .place) q ∙ ap (λ (i : ℕ). i + feedOf s q .used) (consumed-of n s r);
+      let w = reached-sound n s r in
+      token-of (feedOf s q) t (fed-sound (s .phase) (s .place) q (w .phase-is) (w .bound)) e ∙ place-in (s .phase) (s .place) q ∙ ap (λ (i : ℕ). i + feedOf s q .used) (consumed-of n s r);
   close-end = λ n s t r e.
-    let w = reached-sound n s r in
-    token-of (closeOf s) t (closed-sound (s .phase) (s .place) (w .phase-is) (w .bound)) e ∙ close-place-in (s .phase) (s .place) .1 ∙ consumed-of n s r;
+      let w = reached-sound n s r in
+      token-of (closeOf s) t (closed-sound (s .phase) (s .place) (w .phase-is) (w .bound)) e ∙ close-place-in (s .phase) (s .place) .1 ∙ consumed-of n s r;
   depth = λ n s st d h r e. depth-of n s st d h r e;
   not-felt = λ n s st d h r e l. not-felt-of n d (depth-of n s st d h r e .1) l;
 }

@@ -76,7 +76,7 @@ leaves-block c st d p Semi s =
     (λ _. (omega (arith, s .0), s .1, omega (arith, s .2)))
 leaves-block c st d p Paren s =
     let g : (1 ≤ deeper d) × (deeper d ≤ suc p) =
-        pick (λ (k : ℕ). (1 ≤ k) × (k ≤ suc p)) (ltb d sourceLimit) (λ _. (omega arith, omega (arith, s .2))) (λ _. (s .1, omega (arith, s .2)))
+    pick (λ (k : ℕ). (1 ≤ k) × (k ≤ suc p)) (ltb d sourceLimit) (λ _. (omega arith, omega (arith, s .2))) (λ _. (s .1, omega (arith, s .2)))
     in
     pick (λ k. Sound k (suc p)) (semicolon c) (λ _. (omega (arith, s .0), g .0, g .1)) (λ _. (omega (arith, s .0), s .1, omega (arith, s .2)))
 

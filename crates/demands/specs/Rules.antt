@@ -95,7 +95,6 @@ pub record Rules : Type 0 where
   pub limit : (m : Mode) (p b : ℕ) (q : List ℕ) → sourceLimit ≤ p → feedOf (live m p) (b ∷ q) ≡ fed (refuse tooLong sourceLimit) 0 (dead tooLong sourceLimit p)
   pub last-rparen : (q : List ℕ) → feedOf (live Blank 1048575) (41 ∷ q) ≡ fed (ready (token rparen 1048575 1)) 1 (live Blank 1048576)
   pub last-at-sign : (q : List ℕ) → feedOf (live Blank 1048575) (64 ∷ q) ≡ fed (ready (token at-sign 1048575 1)) 1 (live Blank 1048576)
-
   -- On states reached from the fresh one.
   -- the place is the bytes consumed so far, at most the limit
   pub consumed : (n : ℕ) (s : State) → Reached n s → (s .place ≡ n) × (n ≤ sourceLimit)

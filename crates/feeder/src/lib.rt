@@ -109,7 +109,11 @@ fn closing(mode: Mode, place: usize) -> Lexed
             number: refusals::NO_DIGITS,
             place: start,
         }),
-        Mode::Block { start, depth: _, half: _ } => Lexed::Refused(Refusal {
+        Mode::Block {
+            start,
+            depth: _,
+            half: _,
+        } => Lexed::Refused(Refusal {
             number: refusals::OPEN_COMMENT,
             place: start,
         }),
@@ -119,9 +123,12 @@ fn closing(mode: Mode, place: usize) -> Lexed
             place,
             Reading::Number(Limbs { hi: 0, lo: 0 }),
         ),
-        Mode::Digits { start, minus, radix: _, reading } => {
-            lexer::literal::concluded(minus, start, place, reading)
-        }
+        Mode::Digits {
+            start,
+            minus,
+            radix: _,
+            reading,
+        } => { lexer::literal::concluded(minus, start, place, reading) }
     }
 }
 

@@ -219,7 +219,15 @@ fn inside_by(b: u8, depth: usize, half: Half) -> Inside
     }
 }
 
-fn in_block(piece: &[u8], place: usize, i: usize, stop: usize, start: usize, depth: usize, half: Half) -> Moved
+fn in_block(
+    piece: &[u8],
+    place: usize,
+    i: usize,
+    stop: usize,
+    start: usize,
+    depth: usize,
+    half: Half,
+) -> Moved
     requires { ⌜ Span (now piece) place i stop ⌝ }
     ensures { λ r. ⌜ Further i stop r × (moved (now (piece .entry)) place r ≡ call (now (piece .entry)) place i (Block start depth half)) ⌝ }
 {
@@ -248,7 +256,16 @@ fn in_block(piece: &[u8], place: usize, i: usize, stop: usize, start: usize, dep
     )
 }
 
-fn in_digits(piece: &[u8], place: usize, i: usize, stop: usize, start: usize, minus: bool, radix: u8, reading: Reading) -> Moved
+fn in_digits(
+    piece: &[u8],
+    place: usize,
+    i: usize,
+    stop: usize,
+    start: usize,
+    minus: bool,
+    radix: u8,
+    reading: Reading,
+) -> Moved
     requires { ⌜ Span (now piece) place i stop ⌝ }
     ensures { λ r. ⌜ Further i stop r × (moved (now (piece .entry)) place r ≡ call (now (piece .entry)) place i (Digits start minus radix reading)) ⌝ }
 {

@@ -77,7 +77,7 @@ answered-requires-3 : tie.Need-answered-requires-3 Inv-loop μ-loop
 answered-requires-3 c κs = tt
 
 returns-3 : tie.Need-returns-3 Inv-loop μ-loop
-returns-3 c = 
+returns-3 c =
     let l = c .before .before .before in
     let a = l .before .before .before .args in
     let n = l .before .below-limit in
@@ -94,7 +94,7 @@ answered-requires-4 : tie.Need-answered-requires-4 Inv-loop μ-loop
 answered-requires-4 c κs = tt
 
 returns-4 : tie.Need-returns-4 Inv-loop μ-loop
-returns-4 c = 
+returns-4 c =
     let l = c .before .before .before in
     let a = l .before .before .before .args in
     rw (c .answered4 .ensures) (sym (call-end (now (a .piece)) (a .place) (l .loop .i) (l .loop .m) (omega arith)) ∙ l .loop .inv .1)

@@ -64,7 +64,7 @@ loop-less c = omega arith
 
 loop-again : tie.Need-loop-again Inv-loop μ-loop
 unfolding turn
-loop-again c = 
+loop-again c =
     let u = c .before .before in
     (omega arith, omega arith, sym (call-go (Q u) (P u) (J u) Blank (lt u) (below u) Blank (rw (told u ∙ c .enum-told .given .1) refl)) ∙ kept u)
 
@@ -79,7 +79,7 @@ loop-less-2 c = omega arith
 
 loop-again-2 : tie.Need-loop-again-2 Inv-loop μ-loop
 unfolding turn
-loop-again-2 c = 
+loop-again-2 c =
     let u = c .before .before in
     (omega arith, omega arith, sym (call-go (Q u) (P u) (J u) Blank (lt u) (below u) Blank (rw (told u ∙ c .enum-told2 .given .1) refl)) ∙ kept u)
 
@@ -91,7 +91,7 @@ add-t12 c = omega arith
 
 returns : tie.Need-returns Inv-loop μ-loop
 unfolding turn
-returns c = 
+returns c =
     let u = c .before .before in
     ((omega arith, omega arith), sym (call-go (Q u) (P u) (J u) Blank (lt u) (below u) Line (rw (told u ∙ c .enum-told3 .given .1) refl)) ∙ kept u)
 
@@ -106,7 +106,7 @@ add-t15 c = omega arith
 
 returns-2 : tie.Need-returns-2 Inv-loop μ-loop
 unfolding turn
-returns-2 c = 
+returns-2 c =
     let u = c .before .before in
     ((omega arith, omega arith), sym (call-go (Q u) (P u) (J u) Blank (lt u) (below u) (Opener (P u + J u)) (rw (told u ∙ c .enum-told4 .given .1) refl)) ∙ kept u)
 
@@ -121,7 +121,7 @@ add-t18 c = omega arith
 
 returns-3 : tie.Need-returns-3 Inv-loop μ-loop
 unfolding turn
-returns-3 c = 
+returns-3 c =
     let u = c .before .before in
     (omega arith, sym (call-take (Q u) (P u) (J u) Blank (lt u) (below u) (token rparen (P u + J u) 1) (rw (told u ∙ c .enum-told5 .given .1) refl)) ∙ kept u)
 
@@ -136,7 +136,7 @@ add-t21 c = omega arith
 
 returns-4 : tie.Need-returns-4 Inv-loop μ-loop
 unfolding turn
-returns-4 c = 
+returns-4 c =
     let u = c .before .before in
     (omega arith, sym (call-take (Q u) (P u) (J u) Blank (lt u) (below u) (token at-sign (P u + J u) 1) (rw (told u ∙ c .enum-told6 .given .1) refl)) ∙ kept u)
 
@@ -148,7 +148,7 @@ add-t22 c = omega arith
 
 returns-5 : tie.Need-returns-5 Inv-loop μ-loop
 unfolding turn
-returns-5 c = 
+returns-5 c =
     let u = c .before .before in
     (omega arith, sym (call-halt (Q u) (P u) (J u) Blank (lt u) (below u) formFeed (P u + J u) (rw (told u ∙ c .enum-told7 .given .1) refl)) ∙ kept u)
 
@@ -163,7 +163,7 @@ add-t26 c = omega arith
 
 returns-6 : tie.Need-returns-6 Inv-loop μ-loop
 unfolding turn
-returns-6 c = 
+returns-6 c =
     let u = c .before .before in
     ((omega arith, omega arith), sym (call-go (Q u) (P u) (J u) Blank (lt u) (below u) (Sign (P u + J u)) (rw (told u ∙ c .enum-told8 .given .1) refl)) ∙ kept u)
 
@@ -181,7 +181,7 @@ add-t29 c = omega arith
 
 returns-7 : tie.Need-returns-7 Inv-loop μ-loop
 unfolding turn
-returns-7 c = 
+returns-7 c =
     let u = c .before .before .before in
     ((omega arith, omega arith), rw (c .begun-by .ensures) (sym (call-go (Q u) (P u) (J u) Blank (lt u) (below u) (begun (P u + J u) false (getD (Q u) (J u) 0)) (rw (told u ∙ c .before .enum-told9 .given .1) refl)) ∙ kept u))
 
@@ -196,7 +196,7 @@ add-t32 c = omega arith
 
 returns-8 : tie.Need-returns-8 Inv-loop μ-loop
 unfolding turn
-returns-8 c = 
+returns-8 c =
     let u = c .before .before in
     ((omega arith, omega arith), sym (call-go (Q u) (P u) (J u) Blank (lt u) (below u) (Symbol (P u + J u)) (rw (told u ∙ c .enum-told10 .given .1) refl)) ∙ kept u)
 

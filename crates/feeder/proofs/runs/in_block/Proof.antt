@@ -41,7 +41,7 @@ add-t18 c = omega arith
 
 returns : tie.Need-returns Inv-loop μ-loop
 unfolding turn
-returns c = 
+returns c =
     let u = c .before .before in
     let t = u .before .before .before in
     let a = t .before .before .args in
@@ -58,7 +58,7 @@ loop-less c = omega arith
 
 loop-again : tie.Need-loop-again Inv-loop μ-loop
 unfolding turn
-loop-again c = 
+loop-again c =
     let u = c .before .before .before in
     let t = u .before .before .before in
     let a = t .before .before .args in

@@ -39,12 +39,14 @@ loop-less c = omega arith
 
 loop-again : tie.Need-loop-again Inv-loop μ-loop
 unfolding turn
-loop-again c = 
+loop-again c =
     let t = c .before .before .before .before .before in
     let a = t .before .before .args in
-    let f = sym (c .before .before .is-literal-byte .ensures) ∙ c .before .if1 .taken in
-    (omega arith, omega arith,
-    rw (c .grow .ensures) (sym (call-go (now (a .piece)) (a .place) (t .loop .j) (Digits (a .start) (a .minus) (a .radix) (t .loop .x)) (omega arith) (omega arith) (Digits (a .start) (a .minus) (a .radix) (grow (a .radix) (t .loop .x) (getD (now (a .piece)) (t .loop .j) 0))) (rw f refl)) ∙ t .loop .inv .2))
+    let f = sym (c .before .before .is-literal-byte .ensures) ∙ c .before .if1 .taken in (
+      omega arith,
+      omega arith,
+      rw (c .grow .ensures) (sym (call-go (now (a .piece)) (a .place) (t .loop .j) (Digits (a .start) (a .minus) (a .radix) (t .loop .x)) (omega arith) (omega arith) (Digits (a .start) (a .minus) (a .radix) (grow (a .radix) (t .loop .x) (getD (now (a .piece)) (t .loop .j) 0))) (rw f refl)) ∙ t .loop .inv .2),
+    )
 
 add-concluded : tie.Need-add-concluded Inv-loop μ-loop
 add-concluded c = omega arith
@@ -57,12 +59,14 @@ ended-requires c κs = tt
 
 returns : tie.Need-returns Inv-loop μ-loop
 unfolding turn
-returns c = 
+returns c =
     let t = c .before .before .before .before .before .before in
     let a = t .before .before .args in
     let f = sym (c .before .before .before .is-literal-byte .ensures) ∙ c .before .before .if1 .left in
-    rw (c .ended .ensures) (ended-stops (c .before .concluded .result) (t .loop .j) (a .stop) (a .i) (omega arith),
-    sym (call-ends (now (a .piece)) (a .place) (t .loop .j) (Digits (a .start) (a .minus) (a .radix) (t .loop .x)) (omega arith) (omega arith) (c .before .concluded .result) _ (c .before .concluded .ensures) (rw f refl)) ∙ t .loop .inv .2)
+    rw (c .ended .ensures) (
+      ended-stops (c .before .concluded .result) (t .loop .j) (a .stop) (a .i) (omega arith),
+      sym (call-ends (now (a .piece)) (a .place) (t .loop .j) (Digits (a .start) (a .minus) (a .radix) (t .loop .x)) (omega arith) (omega arith) (c .before .concluded .result) _ (c .before .concluded .ensures) (rw f refl)) ∙ t .loop .inv .2,
+    )
 
 returns-2 : tie.Need-returns-2 Inv-loop μ-loop
 returns-2 c = ((omega arith, omega arith), c .before .loop .inv .2)

@@ -32,7 +32,7 @@ add-t11 c = omega arith
 
 returns : tie.Need-returns Inv-loop μ-loop
 unfolding turn
-returns c = 
+returns c =
     let t = c .before .before .before .before in
     let a = t .before .before .args in
     let f = sym (c .before .is-line-end .ensures) ∙ c .if1 .taken in
@@ -46,7 +46,7 @@ loop-less c = omega arith
 
 loop-again : tie.Need-loop-again Inv-loop μ-loop
 unfolding turn
-loop-again c = 
+loop-again c =
     let t = c .before .before .before .before in
     let a = t .before .before .args in
     let f = sym (c .before .is-line-end .ensures) ∙ c .if1 .left in

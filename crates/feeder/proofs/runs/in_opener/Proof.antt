@@ -21,18 +21,18 @@ add-t11 c = search needs
 
 returns : tie.Need-returns
 unfolding turn
-returns c = 
+returns c =
     let a = c .before .before .args in
     let f : semicolon (classOf (getD (now (a .piece)) (a .i) 0)) ≡ true =
-        sym (is-semicolon (getD (now (a .piece)) (a .i) 0) ((c .before .shared-slice-known .given (a .i)) .fits)) ∙ eq-eqb _ _ (c .if1 .taken) in
+    sym (is-semicolon (getD (now (a .piece)) (a .i) 0) ((c .before .shared-slice-known .given (a .i)) .fits)) ∙ eq-eqb _ _ (c .if1 .taken) in
     ((omega arith, omega arith), sym (call-go (now (a .piece)) (a .place) (a .i) (Opener (a .start)) (omega arith) (omega arith) (Block (a .start) 1 Clear) (rw f refl)))
 
 returns-2 : tie.Need-returns-2
 unfolding turn
-returns-2 c = 
+returns-2 c =
     let a = c .before .before .args in
     let f : semicolon (classOf (getD (now (a .piece)) (a .i) 0)) ≡ false =
-        sym (is-semicolon (getD (now (a .piece)) (a .i) 0) ((c .before .shared-slice-known .given (a .i)) .fits)) ∙ ne-eqb _ _ (c .if1 .left) in
+    sym (is-semicolon (getD (now (a .piece)) (a .i) 0) ((c .before .shared-slice-known .given (a .i)) .fits)) ∙ ne-eqb _ _ (c .if1 .left) in
     (omega arith, sym (call-stay (now (a .piece)) (a .place) (a .i) (Opener (a .start)) (omega arith) (omega arith) _ (rw f refl)))
 
 pub in-opener-spec : {M : Type 1} → statement M

@@ -22,14 +22,14 @@ add-t11 c = search needs
 
 returns : tie.Need-returns
 unfolding turn
-returns c = 
+returns c =
     let a = c .before .before .before .before .before .args in
     let f = sym (c .before .before .is-literal-byte .ensures) ∙ c .before .if1 .taken in
     ((omega arith, omega arith), sym (call-go (now (a .piece)) (a .place) (a .i) (Sign (a .start)) (omega arith) (omega arith) _ (rw (f, c .begun-by .ensures) refl)))
 
 returns-2 : tie.Need-returns-2
 unfolding turn
-returns-2 c = 
+returns-2 c =
     let a = c .before .before .before .before .args in
     let f = sym (c .before .is-literal-byte .ensures) ∙ c .if1 .left in
     (omega arith, sym (call-halt (now (a .piece)) (a .place) (a .i) (Sign (a .start)) (omega arith) (omega arith) _ _ (rw f refl)))

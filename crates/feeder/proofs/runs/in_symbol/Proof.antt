@@ -36,7 +36,7 @@ loop-less c = omega arith
 
 loop-again : tie.Need-loop-again Inv-loop μ-loop
 unfolding turn
-loop-again c = 
+loop-again c =
     let t = c .before .before .before .before in
     let a = t .before .before .args in
     let f = sym (c .before .is-sym-other-char .ensures) ∙ c .if1 .taken in
@@ -50,7 +50,7 @@ less-requires c κs = tt
 
 returns : tie.Need-returns Inv-loop μ-loop
 unfolding turn
-returns c = 
+returns c =
     let t = c .before .before .before .before .before in
     let a = t .before .before .args in
     let f = sym (c .before .before .is-sym-other-char .ensures) ∙ c .before .if1 .left in

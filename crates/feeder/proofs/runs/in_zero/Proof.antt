@@ -26,7 +26,7 @@ in-digits-requires c κs = search needs
 
 returns : tie.Need-returns
 unfolding turn val
-returns c = 
+returns c =
     let a = c .before .before .before .before .before .args in
     let f : radixOf 48 (getD (now (a .piece)) (a .i) 0) ≡ 10 = sym (c .before .before .radix-of .ensures) ∙ c .before .if1 .taken in
     (c .in-digits .ensures .0, c .in-digits .ensures .1 ∙ same-turn (now (a .piece)) (a .place) (a .i) (Digits (a .start) (a .minus) 10 (Number (split 0))) (Zero (a .start) (a .minus)) (omega arith) (omega arith) (sym (rw (eq-eqb _ _ f) refl)))
@@ -36,7 +36,7 @@ add-t15 c = search needs
 
 returns-2 : tie.Need-returns-2
 unfolding turn
-returns-2 c = 
+returns-2 c =
     let a = c .before .before .before .before .args in
     let f : eqb (radixOf 48 (getD (now (a .piece)) (a .i) 0)) 10 ≡ false = rw (← c .before .radix-of .ensures) (ne-eqb _ _ (c .if1 .left)) in
     ((omega arith, omega arith), rw (c .before .radix-of .ensures) (sym (call-go (now (a .piece)) (a .place) (a .i) (Zero (a .start) (a .minus)) (omega arith) (omega arith) (Digits (a .start) (a .minus) (radixOf 48 (getD (now (a .piece)) (a .i) 0)) Empty) (rw f refl))))
