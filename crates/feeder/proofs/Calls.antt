@@ -4,7 +4,7 @@ use mathlib.Core.Path.{_≡_, refl, sym, ap, _∙_}
 use mathlib.Core.List.{List, [], _∷_}
 use mathlib.Core.Bool.{cond, true, false}
 use native.Mathlib.Omega.{arith}
-use native.Mathlib.Nat.{add-zero}
+use native.Mathlib.Nat.{add-zero, zero-add}
 use lib.Dec.{leb}
 use lib.ListN.{length, getD, drop, drop-of-length-le}
 use borrow.Author.Tests.{le-leb, lt-leb}
@@ -17,7 +17,7 @@ use Rattle.lexer.specs.declared.Lexed.{Lexed}
 use Rattle.lexer.specs.declared.Lexed.the-variants as lexed
 use Rattle.feeder.specs.Machine.{Mode, Blank, Block, Half, Clear, Semi, Paren, half, out, deeper, inBlock, Turn, Go, Stay, Take, Halt, ends, turn, step}
 use Rattle.feeder.specs.Feeding.{Fed, fed, more, ready, refuse, live, dead, plus, stepped, feedFrom}
-use Rattle.feeder.specs.Code.{ahead, call, moved, endedOf, insideOf}
+use Rattle.feeder.specs.Code.{ahead, call, moved, Further, endedOf, insideOf}
 use Rattle.feeder.specs.declared.runs.Inside.{Inside}
 use Rattle.feeder.specs.declared.runs.Inside.the-variants.{Out, In}
 
@@ -25,6 +25,12 @@ module _ (q : List ℕ) (p i : ℕ) (m : Mode) where
   looked : (r : ℕ) → r < sourceLimit → (b : ℕ) → step m r b ≡ turn m r b
   unfolding step
   looked r l b = rw (lt-leb sourceLimit r l) refl
+
+  -- before the first byte
+  pub call-start : call q p 0 m ≡ feedFrom m p q
+  call-start =
+      let f = feedFrom m p q in
+      ap (λ (r : ℕ). ahead 0 (feedFrom m r q)) (add-zero p) ∙ ap (λ (u : ℕ). fed (f .reply) u (f .state)) (zero-add (f .used))
 
   -- the whole piece is consumed
   pub call-end : length q ≤ i → call q p i m ≡ fed more i (live m (p + i))
@@ -74,6 +80,16 @@ module _ (q : List ℕ) (p i : ℕ) (m : Mode) where
 
     pub call-ends : (x : Lexed) (a : Answer) → answerOf x ≡ a → turn m (p + i) (getD q i 0) ≡ ends a → call q p i m ≡ moved q p (endedOf x i)
     call-ends x a f e = below ∙ ap turned (e ∙ ap ends (sym f)) ∙ ends-on x
+
+-- two modes that a byte turns alike leave the same of the call
+pub same-turn : (q : List ℕ) (p i : ℕ) (m k : Mode) → i < length q → p + i < sourceLimit → turn m (p + i) (getD q i 0) ≡ turn k (p + i) (getD q i 0) → call q p i m ≡ call q p i k
+same-turn q p i m k h l e = below q p i m h l ∙ ap (turned q p i m) e ∙ sym (below q p i k h l)
+
+-- what is held ends where the run is
+pub ended-stops : (x : Lexed) (j stop i : ℕ) → j ≤ stop → Further i stop (endedOf x j)
+ended-stops (lexed.Token t st) j stop i h = h
+ended-stops (lexed.Refused r) j stop i h = h
+ended-stops lexed.End j stop i h = h
 
 -- the mode of a block comment that goes on or is left
 abbrev pub modeOf : ℕ → Inside → Mode

@@ -1,3 +1,5 @@
 pub mod Trees
 pub mod Records
 pub mod Decoding
+pub mod Printable
+pub mod Walking

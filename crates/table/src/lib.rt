@@ -1,9 +1,14 @@
 // The node table: its records, and the check of a whole table.
 use refusals::Refusal;
 ghost use mathlib.Core.Path.{_≡_};
-ghost use Rattle.table.specs.Trees.{isSymbol};
-ghost use Rattle.table.specs.Records.{recordAt};
-ghost use Rattle.table.specs.Decoding.{treeAt, tableOf, judged, verdictOf};
+ghost use Prim.Native.Nat.{_+_, _≤_};
+ghost use lib.ListN.{length};
+ghost use mathlib.Core.Bool.{false};
+ghost use Rattle.refusals.specs.Numbers.{tooDeep};
+ghost use Rattle.table.specs.Trees.{Tree, isSymbol};
+ghost use Rattle.table.specs.Records.{Symbol, Integer, recordAt, payload};
+ghost use Rattle.table.specs.Decoding.{refused, isLowest, ofRecord, treeAt, tableOf, judged, verdictOf};
+ghost use Rattle.table.specs.Walking.{walkOf};
 
 pub enum Record {
     // A symbol, or a binding's name: the length of its record.
@@ -18,4 +23,184 @@ pub enum Record {
 pub enum Checked {
     Good,
     Refused(Refusal),
+}
+
+// The record at `at`; past the end of the table, as anywhere else where its bytes are missing, it is bad.
+pub fn record_at(t: &[u8], at: usize) -> Record
+    ensures { λ r. ⌜ r ≡ recordAt (now (t .entry)) at ⌝ }
+{
+    if t.len() < at {
+        return Record::Bad;
+    }
+    let left = t.len() - at;
+    if left < 6 {
+        return Record::Bad;
+    }
+    let len = wide::u32_at(t, at);
+    if left < len {
+        return Record::Bad;
+    }
+    if len < 6 {
+        return Record::Bad;
+    }
+    let kind = wide::u16_at(t, at + 4);
+    if kind == 1 {
+        return Record::Symbol(len);
+    }
+    if kind == 2 {
+        if len == 22 {
+            return Record::Integer;
+        }
+        return Record::Bad;
+    }
+    if kind == 3 {
+        return Record::Binding(len);
+    }
+    if kind == 4 {
+        if len == 10 {
+            return Record::List(wide::u32_at(t, at + 6));
+        }
+        return Record::Bad;
+    }
+    Record::Bad
+}
+
+// The bytes are what the lexer reads as one symbol.
+pub fn is_symbol(s: &[u8]) -> bool
+    ensures { λ r. ⌜ r ≡ isSymbol (now (s .entry)) ⌝ }
+{
+    if s.len() == 0 {
+        return false;
+    }
+    if classes::is_sym_first_char(s[0]) {
+        let mut i = 1;
+        while i < s.len() {
+            if classes::is_sym_other_char(s[i]) {
+                i += 1;
+            } else {
+                return false;
+            }
+        }
+        return true;
+    }
+    false
+}
+
+// The payload of the record of `len` bytes at `at` is a symbol.
+fn is_name(t: &[u8], at: usize, len: usize) -> bool
+    requires { ⌜ (6 ≤ len) × (at + len ≤ length (now t)) ⌝ }
+    ensures { λ r. ⌜ r ≡ isSymbol (payload (now (t .entry)) at len) ⌝ }
+{
+    let start = at + 6;
+    let end = at + len;
+    is_symbol(&t[start..end])
+}
+
+// The integer's record at `at` holds -2^127.
+fn is_lowest(t: &[u8], at: usize) -> bool
+    requires { ⌜ at + 22 ≤ length (now t) ⌝ }
+    ensures { λ r. ⌜ r ≡ isLowest (now (t .entry)) at ⌝ }
+{
+    let w = wide::wide_at(t, at + 6);
+    (w.hi == i64::MIN) & (w.lo == 0)
+}
+
+enum Walked {
+    // The place past a tree.
+    Past(usize),
+    Stopped(Refusal),
+}
+
+fn stopped(number: u8, place: usize) -> Walked
+    ensures { λ r. ⌜ r ≡ walkOf {A = Tree} (refused number place) ⌝ }
+{
+    Walked::Stopped(Refusal { number, place })
+}
+
+// A symbol's record: its payload is a symbol, or it is refused.
+fn check_symbol(t: &[u8], at: usize, len: usize) -> Walked
+    requires { ⌜ (6 ≤ len) × (at + len ≤ length (now t)) ⌝ }
+    ensures { λ r. ⌜ r ≡ walkOf (ofRecord (now (t .entry)) false at false (refused tooDeep) (Symbol len)) ⌝ }
+{
+    if is_name(t, at, len) {
+        return Walked::Past(at + len);
+    }
+    stopped(refusals::BAD_SYMBOL, at)
+}
+
+// An integer's record: only printing refuses one.
+fn check_integer(t: &[u8], at: usize, printing: bool) -> Walked
+    requires { ⌜ at + 22 ≤ length (now t) ⌝ }
+    ensures { λ r. ⌜ r ≡ walkOf (ofRecord (now (t .entry)) printing at false (refused tooDeep) Integer) ⌝ }
+{
+    if printing & is_lowest(t, at) {
+        return stopped(refusals::LOWEST, at);
+    }
+    Walked::Past(at + 22)
+}
+
+// The tree at `at`, with `depth` lists and bindings still to be opened; in a record 15, 13, 16, 17.
+fn check_tree(t: &[u8], at: usize, depth: usize, printing: bool) -> Walked
+    ensures { λ r. ⌜ r ≡ walkOf (treeAt (now (t .entry)) printing depth at) ⌝ }
+{
+    let read = record_at(t, at);
+    match read {
+        Record::Bad => stopped(refusals::BAD_RECORD, at),
+        Record::Symbol(len) => check_symbol(t, at, len),
+        Record::Integer => check_integer(t, at, printing),
+        Record::Binding(len) => {
+            if depth == 0 {
+                return stopped(refusals::TOO_DEEP, at);
+            }
+            if is_name(t, at, len) {
+                return check_tree(t, at + len, depth - 1, printing);
+            }
+            stopped(refusals::BAD_SYMBOL, at)
+        }
+        Record::List(n) => {
+            if depth == 0 {
+                return stopped(refusals::TOO_DEEP, at);
+            }
+            let mut p = at + 10;
+            let mut i = 0;
+            while i < n {
+                let item = check_tree(t, p, depth - 1, printing);
+                match item {
+                    Walked::Stopped(r) => {
+                        return Walked::Stopped(r);
+                    }
+                    Walked::Past(q) => {
+                        p = q;
+                    }
+                }
+                i += 1;
+            }
+            Walked::Past(p)
+        }
+    }
+}
+
+// The whole table: 1, then the first refusal in the order of its records. A tree that is missing is a record that the table's end cuts.
+pub fn check(t: &[u8], printing: bool) -> Checked
+    ensures { λ r. ⌜ verdictOf r ≡ judged (tableOf printing (now (t .entry))) ⌝ }
+{
+    if refusals::TABLE_LIMIT < t.len() {
+        return Checked::Refused(Refusal {
+            number: refusals::TOO_LONG,
+            place: refusals::TABLE_LIMIT,
+        });
+    }
+    let mut p = 0;
+    while p < t.len() {
+        let tree = check_tree(t, p, refusals::DEPTH_LIMIT, printing);
+        match tree {
+            Walked::Stopped(r) => {
+                return Checked::Refused(r);
+            }
+            Walked::Past(q) => {
+                p = q;
+            }
+        }
+    }
+    Checked::Good
 }

@@ -1,51 +1,42 @@
+-- `feeder::close`: a line for each phase.
+use mathlib.Core.Path.{refl, _∙_}
+use Rattle.feeder.specs.Feeding.{closeOf}
 use borrow.Author.Needs.{needs}
 use Rattle.feeder.proofs.close.Statement.{statement}
 use Rattle.feeder.proofs.close.Tie as tie
-use Rattle.feeder.proofs.close.Reads as reads
-use Rattle.feeder.proofs.close.Lts as lts
-use Rattle.feeder.proofs.answered.Reads as answered-reads
-use Rattle.feeder.proofs.closing.Reads as closing-reads
-use Rattle.feeder.proofs.shut_by.Reads as shut-by-reads
 
--- src/lib.rt:156:21
 enum-known-phase : tie.Need-enum-known-phase
 enum-known-phase c = search needs
 
--- src/lib.rt:156:38
 closing-requires : tie.Need-closing-requires
 closing-requires c κs = search needs
 
--- src/lib.rt:156:30
 shut-by-requires : tie.Need-shut-by-requires
 shut-by-requires c κs = search needs
 
--- src/lib.rt:157:35
 enum-told : tie.Need-enum-told
 enum-told c = search needs
 
--- src/lib.rt:157:26
 answered-requires : tie.Need-answered-requires
 answered-requires c κs = search needs
 
--- src/lib.rt:158:24
 enum-known-phase-2 : tie.Need-enum-known-phase-2
 enum-known-phase-2 c = search needs
 
--- src/lib.rt:158:30
 answered-requires-2 : tie.Need-answered-requires-2
 answered-requires-2 c κs = search needs
 
--- src/lib.rt:151:1
 returns : tie.Need-returns
-returns c = ?
+unfolding closeOf
+returns c = c .shut-by .ensures ∙ rw (c .before .closing .ensures, c .before .before .before .phase .given .1) refl
 
--- src/lib.rt:151:1
 returns-2 : tie.Need-returns-2
-returns-2 c = ?
+unfolding closeOf
+returns-2 c = rw (c .answered .ensures, c .before .enum-told .given .1) refl
 
--- src/lib.rt:151:1
 returns-3 : tie.Need-returns-3
-returns-3 c = ?
+unfolding closeOf
+returns-3 c = rw (c .answered2 .ensures, c .before .before .phase2 .given .1) refl
 
 pub close-spec : {M : Type 1} → statement M
 close-spec =

@@ -1,19 +1,19 @@
+-- `feeder::runs::half_of`: the tests on the byte are those on its class.
+use mathlib.Core.Path.{refl}
+use borrow.Author.Needs.{needs}
+use borrow.Author.Tests.{eq-eqb, ne-eqb}
+use Rattle.classes.proofs.Signs.{is-lparen, is-semicolon}
 use Rattle.feeder.proofs.runs.half_of.Statement.{statement}
 use Rattle.feeder.proofs.runs.half_of.Tie as tie
-use Rattle.feeder.proofs.runs.half_of.Reads as reads
-use Rattle.feeder.proofs.runs.half_of.Lts as lts
 
--- src/runs.rt:187:9
 returns : tie.Need-returns
-returns c = ?
+returns c = let b = c .before .args .b in rw (← is-semicolon b (search needs), eq-eqb b 59 (c .if1 .taken)) refl
 
--- src/runs.rt:190:9
 returns-2 : tie.Need-returns-2
-returns-2 c = ?
+returns-2 c = let b = c .before .before .args .b in rw (← is-semicolon b (search needs), ne-eqb b 59 (c .before .if1 .left), ← is-lparen b (search needs), eq-eqb b 40 (c .if2 .taken)) refl
 
--- src/runs.rt:183:1
 returns-3 : tie.Need-returns-3
-returns-3 c = ?
+returns-3 c = let b = c .before .before .args .b in rw (← is-semicolon b (search needs), ne-eqb b 59 (c .before .if1 .left), ← is-lparen b (search needs), ne-eqb b 40 (c .if2 .left)) refl
 
 pub half-of-spec : {M : Type 1} → statement M
 half-of-spec = tie.close (tie.spec returns returns-2 returns-3)

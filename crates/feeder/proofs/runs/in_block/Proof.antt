@@ -1,58 +1,71 @@
+-- `feeder::runs::in_block`: at each place, what is left of the call is what was left at the start.
+use Prim.Native.Nat.{ℕ, _+_, _-_, _≤_, _<_}
+use mathlib.Core.Path.{_≡_, refl, sym, ap, _∙_}
+use mathlib.Core.List.{List}
+use native.Mathlib.Omega.{arith}
+use borrow.Author.Needs.{needs}
+use lib.ListN.{length, getD}
+use denote.Ref.{now}
+use Rattle.feeder.specs.Code.{call}
+use Rattle.classes.specs.Classes.{classOf}
+use Rattle.feeder.specs.Machine.{Blank, Block, Go, inBlock, turn}
+use Rattle.feeder.proofs.Calls.{call-go, modeOf, inside-is}
 use Rattle.feeder.proofs.runs.in_block.Statement.{statement}
 use Rattle.feeder.proofs.runs.in_block.Tie as tie
-use Rattle.feeder.proofs.runs.in_block.Reads as reads
-use Rattle.feeder.proofs.runs.in_block.Lts as lts
-use Rattle.feeder.proofs.runs.inside_by.Reads as inside-by-reads
 
 abbrev Inv-loop : tie.InvT-loop
-Inv-loop piece place i stop start depth j₀ d₀ h₀ j d h = ?
+Inv-loop piece place i stop start depth j₀ d₀ h₀ j d h = (i ≤ j) × (j ≤ stop) × (call piece place j (Block start d h) ≡ call piece place i (Block start depth h₀))
 
 abbrev μ-loop : tie.MeasureT-loop
-μ-loop piece place i stop start depth j₀ d₀ h₀ j d h = ?
+μ-loop piece place i stop start depth j₀ d₀ h₀ j d h = stop - j
 
--- src/runs.rt:229:5
+-- the mode that the byte leads to
+told : (u : tie.After-inside-by Inv-loop μ-loop) → let t = u .before .before .before in let a = t .before .before .args in
+    inBlock (classOf (getD (now (a .piece)) (t .loop .j) 0)) (a .start) (t .loop .d) (t .loop .h) ≡ modeOf (a .start) (u .inside-by .result)
+told u = let t = u .before .before .before in inside-is _ _ _ (t .loop .h) ∙ ap (modeOf (t .before .before .args .start)) (sym (u .inside-by .ensures))
+
 loop-holds : tie.Need-loop-holds Inv-loop μ-loop
-loop-holds c = ?
+loop-holds c = (omega arith, omega arith, refl)
 
--- src/runs.rt:230:25
 shared-slice-read-inside-by : tie.Need-shared-slice-read-inside-by Inv-loop μ-loop
-shared-slice-read-inside-by c = ?
+shared-slice-read-inside-by c = omega arith
 
--- src/runs.rt:230:15
 inside-by-requires : tie.Need-inside-by-requires Inv-loop μ-loop
-inside-by-requires c κs = ?
+inside-by-requires c κs = tt
 
--- src/runs.rt:232:34
 enum-told : tie.Need-enum-told Inv-loop μ-loop
-enum-told c = ?
+enum-told c = search needs
 
--- src/runs.rt:232:47
 add-t18 : tie.Need-add-t18 Inv-loop μ-loop
-add-t18 c = ?
+add-t18 c = omega arith
 
--- src/runs.rt:232:17
 returns : tie.Need-returns Inv-loop μ-loop
-returns c = ?
+unfolding turn
+returns c = 
+    let u = c .before .before in
+    let t = u .before .before .before in
+    let a = t .before .before .args in
+    ((omega arith, omega arith), sym (call-go (now (a .piece)) (a .place) (t .loop .j) (Block (a .start) (t .loop .d) (t .loop .h)) (omega arith) (omega arith) Blank (ap Go (told u ∙ ap (modeOf (a .start)) (c .enum-told .given .1)))) ∙ t .loop .inv .2)
 
--- src/runs.rt:234:24
 enum-known-e : tie.Need-enum-known-e Inv-loop μ-loop
-enum-known-e c = ?
+enum-known-e c = search needs
 
--- src/runs.rt:237:17
 add-j : tie.Need-add-j Inv-loop μ-loop
-add-j c = ?
+add-j c = omega arith
 
--- src/runs.rt:229:5
 loop-less : tie.Need-loop-less Inv-loop μ-loop
-loop-less c = ?
+loop-less c = omega arith
 
--- src/runs.rt:229:5
 loop-again : tie.Need-loop-again Inv-loop μ-loop
-loop-again c = ?
+unfolding turn
+loop-again c = 
+    let u = c .before .before .before in
+    let t = u .before .before .before in
+    let a = t .before .before .args in
+    (omega arith, omega arith, sym (call-go (now (a .piece)) (a .place) (t .loop .j) (Block (a .start) (t .loop .d) (t .loop .h)) (omega arith) (omega arith) (Block (a .start) (c .before .e .given .0 .0) (c .before .e .given .0 .1 .0)) (ap Go (told u ∙ ap (modeOf (a .start)) (c .before .e .given .1)))) ∙ t .loop .inv .2)
 
--- src/runs.rt:222:1
 returns-2 : tie.Need-returns-2 Inv-loop μ-loop
-returns-2 c = ?
+returns-2 c = ((omega arith, omega arith), c .before .loop .inv .2)
 
 pub in-block-spec : {M : Type 1} → statement M
 in-block-spec =

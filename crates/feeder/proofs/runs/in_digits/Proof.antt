@@ -1,65 +1,71 @@
+-- `feeder::runs::in_digits`: at each place, what is left of the call is what was left at the start.
+use Prim.Native.Nat.{ℕ, _+_, _-_, _≤_, _<_}
+use mathlib.Core.Path.{_≡_, refl, sym, ap, _∙_}
+use mathlib.Core.List.{List}
+use native.Mathlib.Omega.{arith}
+use borrow.Author.Needs.{needs}
+use lib.ListN.{length, getD}
+use denote.Ref.{now}
+use Rattle.feeder.specs.Code.{call}
+use Rattle.lexer.specs.Literals.{grow}
+use Rattle.feeder.specs.Machine.{Digits, turn}
+use Rattle.feeder.proofs.Calls.{call-go, call-ends, ended-stops}
 use Rattle.feeder.proofs.runs.in_digits.Statement.{statement}
 use Rattle.feeder.proofs.runs.in_digits.Tie as tie
-use Rattle.feeder.proofs.runs.in_digits.Reads as reads
-use Rattle.feeder.proofs.runs.in_digits.Lts as lts
-use Rattle.classes.proofs.is_literal_byte.Reads as is-literal-byte-reads
-use Rattle.feeder.proofs.runs.ended.Reads as ended-reads
-use Rattle.lexer.proofs.literal.concluded.Reads as concluded-reads
-use Rattle.lexer.proofs.literal.grow.Reads as grow-reads
 
 abbrev Inv-loop : tie.InvT-loop
-Inv-loop piece place i stop start minus radix j₀ x₀ j x = ?
+Inv-loop piece place i stop start minus radix j₀ x₀ j x = (i ≤ j) × (j ≤ stop) × (call piece place j (Digits start minus radix x) ≡ call piece place i (Digits start minus radix x₀))
 
 abbrev μ-loop : tie.MeasureT-loop
-μ-loop piece place i stop start minus radix j₀ x₀ j x = ?
+μ-loop piece place i stop start minus radix j₀ x₀ j x = stop - j
 
--- src/runs.rt:257:5
 loop-holds : tie.Need-loop-holds Inv-loop μ-loop
-loop-holds c = ?
+loop-holds c = (omega arith, omega arith, refl)
 
--- src/runs.rt:258:17
 shared-slice-read-b : tie.Need-shared-slice-read-b Inv-loop μ-loop
-shared-slice-read-b c = ?
+shared-slice-read-b c = omega arith
 
--- src/runs.rt:259:12
 is-literal-byte-requires : tie.Need-is-literal-byte-requires Inv-loop μ-loop
-is-literal-byte-requires c κs = ?
+is-literal-byte-requires c κs = tt
 
--- src/runs.rt:260:13
 grow-requires : tie.Need-grow-requires Inv-loop μ-loop
-grow-requires c κs = ?
+grow-requires c κs = tt
 
--- src/runs.rt:261:13
 add-j : tie.Need-add-j Inv-loop μ-loop
-add-j c = ?
+add-j c = omega arith
 
--- src/runs.rt:257:5
 loop-less : tie.Need-loop-less Inv-loop μ-loop
-loop-less c = ?
+loop-less c = omega arith
 
--- src/runs.rt:257:5
 loop-again : tie.Need-loop-again Inv-loop μ-loop
-loop-again c = ?
+unfolding turn
+loop-again c = 
+    let t = c .before .before .before .before .before in
+    let a = t .before .before .args in
+    let f = sym (c .before .before .is-literal-byte .ensures) ∙ c .before .if1 .taken in
+    (omega arith, omega arith,
+    rw (c .grow .ensures) (sym (call-go (now (a .piece)) (a .place) (t .loop .j) (Digits (a .start) (a .minus) (a .radix) (t .loop .x)) (omega arith) (omega arith) (Digits (a .start) (a .minus) (a .radix) (grow (a .radix) (t .loop .x) (getD (now (a .piece)) (t .loop .j) 0))) (rw f refl)) ∙ t .loop .inv .2))
 
--- src/runs.rt:263:66
 add-concluded : tie.Need-add-concluded Inv-loop μ-loop
-add-concluded c = ?
+add-concluded c = omega arith
 
--- src/runs.rt:263:26
 concluded-requires : tie.Need-concluded-requires Inv-loop μ-loop
-concluded-requires c κs = ?
+concluded-requires c κs = tt
 
--- src/runs.rt:263:13
 ended-requires : tie.Need-ended-requires Inv-loop μ-loop
-ended-requires c κs = ?
+ended-requires c κs = tt
 
--- src/runs.rt:263:13
 returns : tie.Need-returns Inv-loop μ-loop
-returns c = ?
+unfolding turn
+returns c = 
+    let t = c .before .before .before .before .before .before in
+    let a = t .before .before .args in
+    let f = sym (c .before .before .before .is-literal-byte .ensures) ∙ c .before .before .if1 .left in
+    rw (c .ended .ensures) (ended-stops (c .before .concluded .result) (t .loop .j) (a .stop) (a .i) (omega arith),
+    sym (call-ends (now (a .piece)) (a .place) (t .loop .j) (Digits (a .start) (a .minus) (a .radix) (t .loop .x)) (omega arith) (omega arith) (c .before .concluded .result) _ (c .before .concluded .ensures) (rw f refl)) ∙ t .loop .inv .2)
 
--- src/runs.rt:251:1
 returns-2 : tie.Need-returns-2 Inv-loop μ-loop
-returns-2 c = ?
+returns-2 c = ((omega arith, omega arith), c .before .loop .inv .2)
 
 pub in-digits-spec : {M : Type 1} → statement M
 in-digits-spec =

@@ -1,34 +1,38 @@
+-- `feeder::runs::in_sign`: the first digit, or no digits.
+use mathlib.Core.Path.{_≡_, refl, sym, _∙_}
+use native.Mathlib.Omega.{arith}
+use denote.Ref.{now}
+use Rattle.feeder.specs.Machine.{Sign, turn}
+use Rattle.feeder.proofs.Calls.{call-go, call-halt}
 use borrow.Author.Needs.{needs}
 use Rattle.feeder.proofs.runs.in_sign.Statement.{statement}
 use Rattle.feeder.proofs.runs.in_sign.Tie as tie
-use Rattle.feeder.proofs.runs.in_sign.Reads as reads
-use Rattle.feeder.proofs.runs.in_sign.Lts as lts
-use Rattle.classes.proofs.is_literal_byte.Reads as is-literal-byte-reads
-use Rattle.feeder.proofs.runs.begun_by.Reads as begun-by-reads
 
--- src/runs.rt:169:13
 shared-slice-read-b : tie.Need-shared-slice-read-b
 shared-slice-read-b c = search needs
 
--- src/runs.rt:170:8
 is-literal-byte-requires : tie.Need-is-literal-byte-requires
 is-literal-byte-requires c κs = search needs
 
--- src/runs.rt:171:26
 begun-by-requires : tie.Need-begun-by-requires
 begun-by-requires c κs = search needs
 
--- src/runs.rt:171:52
 add-t11 : tie.Need-add-t11
 add-t11 c = search needs
 
--- src/runs.rt:171:9
 returns : tie.Need-returns
-returns c = ?
+unfolding turn
+returns c = 
+    let a = c .before .before .before .before .before .args in
+    let f = sym (c .before .before .is-literal-byte .ensures) ∙ c .before .if1 .taken in
+    ((omega arith, omega arith), sym (call-go (now (a .piece)) (a .place) (a .i) (Sign (a .start)) (omega arith) (omega arith) _ (rw (f, c .begun-by .ensures) refl)))
 
--- src/runs.rt:165:1
 returns-2 : tie.Need-returns-2
-returns-2 c = ?
+unfolding turn
+returns-2 c = 
+    let a = c .before .before .before .before .args in
+    let f = sym (c .before .is-literal-byte .ensures) ∙ c .if1 .left in
+    (omega arith, sym (call-halt (now (a .piece)) (a .place) (a .i) (Sign (a .start)) (omega arith) (omega arith) _ _ (rw f refl)))
 
 pub in-sign-spec : {M : Type 1} → statement M
 in-sign-spec =

@@ -1,0 +1,12 @@
+pub mod Stands
+pub mod Integers
+pub mod Reading
+pub mod Parsing
+pub mod Names
+pub mod Heads
+pub mod Encoded
+pub mod Decoded
+pub mod Checking
+pub mod Answers
+pub mod Whole
+pub mod Cases

@@ -1,0 +1,8 @@
+-- What the check of one tree answers: the place past the tree, or the refusal of the first bad record.
+use Rattle.table.specs.Decoding.{Found, found, refused}
+pub use Rattle.table.specs.declared.Walked.{Walked}
+pub use Rattle.table.specs.declared.Walked.the-variants.{Past, Stopped}
+
+abbrev pub walkOf : {A : Type 0} → Found A → Walked
+walkOf (found x q) = Past q
+walkOf (refused n a) = Stopped (record { number = n; place = a })
