@@ -1,11 +1,13 @@
 // Runs any case on the proved code and prints what it answers: frames on standard input, an answer for each on standard output.
 // A frame is an op byte, three numbers a, b, n of four bytes, the lowest first, and n bytes; an answer is some lines and a line with a dot.
 // A frame that the input's end cuts, or that does not fit the source's room, ends the run.
+mod entrances;
+mod feeding;
 mod lexing;
 mod lines;
+mod rooms;
 
-ghost use mathlib.Core.Path.{_≡_};
-ghost use lib.ListN.{length};
+use feeding::Style;
 
 // More frames than any input has.
 const FRAMES: u64 = 0x7fff_ffff_ffff_ffff;
@@ -26,12 +28,6 @@ enum Next {
 struct After {
     n: usize,
     more: bool,
-}
-
-fn source_room() -> [u8; 1114112]
-    ensures { λ r. ⌜ 1114112 ≡ length r ⌝ }
-{
-    [0; 1114112]
 }
 
 // Reads a frame's bytes to the front of the source's room; false if they do not fit or the input ends.
@@ -60,11 +56,20 @@ fn next_frame(room: &mut [u8]) -> Next {
     Next::Nothing
 }
 
-fn answer(page: &mut [u8; 65536], n: usize, f: Frame, src: &[u8]) -> usize {
-    if f.op == b'L' {
-        return lexing::tokens(page, n, src, f.a);
+fn style(op: u8) -> Style {
+    Style {
+        lent: (op == b'f') | (op == b'c'),
+        calls: (op == b'C') | (op == b'c'),
     }
-    lines::bytes(page, n, b"no such op\n")
+}
+
+fn answer(page: &mut [u8; 65536], n: usize, f: Frame, src: &[u8]) -> usize {
+    let op = f.op;
+    match op {
+        b'L' => lexing::tokens(page, n, src, f.a),
+        b'F' | b'C' => feeding::pieces(page, n, style(op), src, f.a, f.b),
+        _ => lines::bytes(page, n, b"no such op\n"),
+    }
 }
 
 // One frame and its answer.
@@ -99,6 +104,6 @@ fn serve(src: &mut [u8]) {
 }
 
 fn main() {
-    let mut src = source_room();
+    let mut src = rooms::source();
     serve(&mut src);
 }
