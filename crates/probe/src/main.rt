@@ -1,7 +1,7 @@
 // Runs any case on the proved code and prints what it answers: frames on standard input, an answer for each on standard output.
 // A frame is an op byte, three numbers a, b, n of four bytes, the lowest first, and n bytes; an answer is some lines and a line with a dot.
 // A frame that the input's end cuts, or that does not fit the source's room, ends the run.
-// The files stdin and stdout beside src/ are `oracle sample --ops L,F,C --cases 700 stdin stdout`: fixed cases with the Rust's and document 01's answers.
+// The files stdin and stdout beside src/ are `oracle sample --ops L,F,f,C,c --cases 400 stdin stdout`: fixed cases with the Rust's and document 01's answers.
 mod entrances;
 mod feeding;
 mod lexing;
@@ -68,7 +68,7 @@ fn answer(page: &mut [u8; 65536], n: usize, f: Frame, src: &[u8]) -> usize {
     let op = f.op;
     match op {
         b'L' => lexing::tokens(page, n, src, f.a),
-        b'F' | b'C' => feeding::pieces(page, n, style(op), src, f.a, f.b),
+        b'F' | b'f' | b'C' | b'c' => feeding::pieces(page, n, style(op), src, f.a, f.b),
         _ => lines::bytes(page, n, b"no such op\n"),
     }
 }
