@@ -2,10 +2,16 @@
 use feeder::Fed;
 use feeder::State;
 
-pub fn feed(_lent: bool, s: State, piece: &[u8]) -> Fed {
+pub fn feed(lent: bool, s: State, piece: &[u8]) -> Fed {
+    if lent {
+        return feeder_lent::feed_through(s, piece);
+    }
     feeder::feed(s, piece)
 }
 
-pub fn close(_lent: bool, s: State) -> Fed {
+pub fn close(lent: bool, s: State) -> Fed {
+    if lent {
+        return feeder_lent::close_through(s);
+    }
     feeder::close(s)
 }

@@ -1,12 +1,13 @@
 // Runs any case on the proved code and prints what it answers: frames on standard input, an answer for each on standard output.
 // A frame is an op byte, three numbers a, b, n of four bytes, the lowest first, and n bytes; an answer is some lines and a line with a dot.
 // A frame that the input's end cuts, or that does not fit the source's room, ends the run.
-// The files stdin and stdout beside src/ are `oracle sample --ops L,F,C --cases 700 stdin stdout`: fixed cases with the Rust's and document 01's answers.
+// The files stdin and stdout beside src/ are `oracle sample --cases 400 stdin stdout`: fixed cases with the Rust's and document 01's answers.
 mod entrances;
 mod feeding;
 mod lexing;
 mod lines;
 mod rooms;
+mod tables;
 
 use feeding::Style;
 
@@ -64,21 +65,37 @@ fn style(op: u8) -> Style {
     }
 }
 
-fn answer(page: &mut [u8; 65536], n: usize, f: Frame, src: &[u8]) -> usize {
+fn answer(
+    page: &mut [u8; 65536],
+    n: usize,
+    f: Frame,
+    src: &[u8],
+    table: &mut [u8],
+    text: &mut [u8],
+) -> usize {
     let op = f.op;
     match op {
         b'L' => lexing::tokens(page, n, src, f.a),
-        b'F' | b'C' => feeding::pieces(page, n, style(op), src, f.a, f.b),
+        b'F' | b'f' | b'C' | b'c' => feeding::pieces(page, n, style(op), src, f.a, f.b),
+        b'R' => tables::read(page, n, src, table, f.a),
+        b'P' => tables::print(page, n, src, f.a, text, f.b),
+        b'W' => tables::rewrite(page, n, src, f.a, table, text),
         _ => lines::bytes(page, n, b"no such op\n"),
     }
 }
 
 // One frame and its answer.
-fn turn(page: &mut [u8; 65536], n: usize, room: &mut [u8]) -> After {
+fn turn(
+    page: &mut [u8; 65536],
+    n: usize,
+    room: &mut [u8],
+    table: &mut [u8],
+    text: &mut [u8],
+) -> After {
     match next_frame(room) {
         Next::Is(f) => {
             let len = lines::within(f.len, room);
-            let m = answer(page, n, f, &room[..len]);
+            let m = answer(page, n, f, &room[..len], table, text);
             After {
                 n: lines::bytes(page, m, b".\n"),
                 more: true,
@@ -88,12 +105,12 @@ fn turn(page: &mut [u8; 65536], n: usize, room: &mut [u8]) -> After {
     }
 }
 
-fn serve(src: &mut [u8]) {
+fn serve(src: &mut [u8], table: &mut [u8], text: &mut [u8]) {
     let mut page = io::large_buffer();
     let mut n = 0;
     let mut left = FRAMES;
     while 0 < left {
-        let t = turn(&mut page, n, src);
+        let t = turn(&mut page, n, src, table, text);
         n = t.n;
         if t.more {
             left -= 1;
@@ -106,5 +123,7 @@ fn serve(src: &mut [u8]) {
 
 fn main() {
     let mut src = rooms::source();
-    serve(&mut src);
+    let mut table = rooms::table();
+    let mut text = rooms::text();
+    serve(&mut src, &mut table, &mut text);
 }

@@ -9,3 +9,17 @@ pub fn source() -> [u8; 1114112]
 {
     [0; 1114112]
 }
+
+// The table of any source that the tests send.
+pub fn table() -> [u8; 3145728]
+    ensures { λ r. ⌜ 3145728 ≡ length r ⌝ }
+{
+    [0; 3145728]
+}
+
+// What is printed.
+pub fn text() -> [u8; 2097152]
+    ensures { λ r. ⌜ 2097152 ≡ length r ⌝ }
+{
+    [0; 2097152]
+}

@@ -7,10 +7,10 @@ use Rattle.probe.proofs.serve.Statement.{statement}
 use Rattle.probe.proofs.serve.Tie as tie
 
 abbrev Inv-loop : tie.InvT-loop
-Inv-loop src₀ page₀ n₀ left₀ src page n left = length src ≡ length src₀
+Inv-loop src₀ table₀ text₀ page₀ n₀ left₀ src table text page n left = (length src ≡ length src₀) × (length table ≡ length table₀) × (length text ≡ length text₀)
 
 abbrev μ-loop : tie.MeasureT-loop
-μ-loop src₀ page₀ n₀ left₀ src page n left = left
+μ-loop src₀ table₀ text₀ page₀ n₀ left₀ src table text page n left = left
 
 large-buffer-requires : tie.Need-large-buffer-requires Inv-loop μ-loop
 large-buffer-requires c κs = tt
@@ -42,8 +42,14 @@ flush-requires c κs = tt
 same-length : tie.Need-same-length Inv-loop μ-loop
 same-length c = search needs
 
+same-length-2 : tie.Need-same-length-2 Inv-loop μ-loop
+same-length-2 c = search needs
+
+same-length-3 : tie.Need-same-length-3 Inv-loop μ-loop
+same-length-3 c = search needs
+
 returns : tie.Need-returns Inv-loop μ-loop
 returns c = tt
 
 pub serve-spec : {M : Type 1} → statement M
-serve-spec = tie.close (tie.spec Inv-loop μ-loop large-buffer-requires loop-holds turn-requires sub-left loop-less loop-again loop-less-2 loop-again-2 flush-requires same-length returns)
+serve-spec = tie.close (tie.spec Inv-loop μ-loop large-buffer-requires loop-holds turn-requires sub-left loop-less loop-again loop-less-2 loop-again-2 flush-requires same-length same-length-2 same-length-3 returns)
