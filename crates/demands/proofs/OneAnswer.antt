@@ -44,8 +44,8 @@ use Rattle.table.proofs.Answers.{verdict-same}
 use Rattle.printer.specs.declared.Printed.{Printed}
 use Rattle.printer.specs.declared.Printed.the-variants as printed
 use Rattle.printer.specs.Printing.{printOf, printing as printingOf, printedInto}
-use Rattle.reader.specs.declared.Read.{Read}
-use Rattle.reader.specs.declared.Read.the-variants as read
+use Rattle.reader.specs.declared.Readout.{Readout}
+use Rattle.reader.specs.declared.Readout.the-variants as read
 use Rattle.reader.specs.Reading.{readOf, reading as readingOf, readInto}
 
 -- ---- what is stated of a promise
@@ -202,7 +202,7 @@ fed-same f g p q e =
     at : (a b : Answer) (m n : ℕ) (s t : State) → a ≡ b → m ≡ n → s ≡ t → _≡_ {A = Fed} (record { out = record { answer = a; used = m }; state = s }) (record { out = record { answer = b; used = n }; state = t })
     at a b m n s t e f g = rw (e, f, g) refl
 
-pub read-same : (a b : Read) → readOf a ≡ readOf b → a ≡ b
+pub read-same : (a b : Readout) → readOf a ≡ readOf b → a ≡ b
 read-same (read.Table n) (read.Table m) e = ap read.Table (cc)
 read-same (read.Table n) (read.Refused s) e = cc
 read-same (read.Refused r) (read.Table m) e = cc
@@ -265,7 +265,7 @@ pub record OneAnswer : Type 0 where
   pub table·is-symbol : (s : List ℕ) → One Bool (λ r. r ≡ isSymbol s)
   pub table·check : (t : List ℕ) (printing : Bool) → One Checked (λ r. verdictOf r ≡ judged (tableOf printing t))
   pub printer·print : (t : List ℕ) (width : ℕ) (out : List ℕ) → Both Printed (List ℕ) (λ r exit. (printOf r ≡ printingOf t width (length out)) × (exit ≡ printedInto t width out))
-  pub reader·read : (src room : List ℕ) → Both Read (List ℕ) (λ r exit. (readOf r ≡ readingOf src (length room)) × (exit ≡ readInto src room))
+  pub reader·read : (src room : List ℕ) → Both Readout (List ℕ) (λ r exit. (readOf r ≡ readingOf src (length room)) × (exit ≡ readInto src room))
 
 pub one-answer : OneAnswer
 one-answer = record {
