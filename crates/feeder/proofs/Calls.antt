@@ -18,8 +18,8 @@ use Rattle.lexer.specs.declared.Lexed.the-variants as lexed
 use Rattle.feeder.specs.Machine.{Mode, Blank, Block, Half, Clear, Semi, Paren, half, out, deeper, inBlock, Turn, Go, Stay, Take, Halt, ends, turn, step}
 use Rattle.feeder.specs.Feeding.{Fed, fed, more, ready, refuse, live, dead, plus, stepped, feedFrom}
 use Rattle.feeder.specs.Code.{ahead, call, moved, Further, endedOf, insideOf}
-use Rattle.feeder.specs.declared.runs.Inside.{Inside}
-use Rattle.feeder.specs.declared.runs.Inside.the-variants.{Out, In}
+use Rattle.feeder.specs.declared.comments.Inside.{Inside}
+use Rattle.feeder.specs.declared.comments.Inside.the-variants.{Out, In}
 
 module _ (q : List ℕ) (p i : ℕ) (m : Mode) where
   looked : (r : ℕ) → r < sourceLimit → (b : ℕ) → step m r b ≡ turn m r b

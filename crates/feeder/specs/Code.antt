@@ -15,8 +15,8 @@ use Rattle.feeder.specs.Feeding.{Fed, fed, ready, refuse, live, feedFrom
 use Rattle.feeder.specs.declared.Phase.the-variants.{Refused}
 use Rattle.feeder.specs.declared.runs.Moved.{Moved}
 use Rattle.feeder.specs.declared.runs.Moved.the-variants.{On, Give, Halt}
-use Rattle.feeder.specs.declared.runs.Inside.{Inside}
-use Rattle.feeder.specs.declared.runs.Inside.the-variants.{Out, In}
+use Rattle.feeder.specs.declared.comments.Inside.{Inside}
+use Rattle.feeder.specs.declared.comments.Inside.the-variants.{Out, In}
 
 -- i bytes had been consumed before
 abbrev pub ahead : ℕ → Fed → Fed

@@ -1,5 +1,7 @@
 // Feeding in pieces: a state and a piece give a token, "more" or a refusal, the bytes consumed, and the new state.
-pub mod runs;
+mod comments;
+mod literals;
+mod runs;
 
 use lexer::Lexed;
 use lexer::Token;

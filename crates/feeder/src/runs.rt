@@ -6,65 +6,26 @@ use crate::Mode;
 use crate::Phase;
 use crate::State;
 use crate::answered;
+use crate::comments::in_block;
+use crate::literals::begun_by;
+use crate::literals::in_digits;
+use crate::literals::in_sign;
+use crate::literals::in_zero;
 use classes::Class;
-use lexer::Lexed;
 use lexer::Token;
-use lexer::literal::Reading;
 use refusals::Refusal;
-use wide::Limbs;
 ghost use mathlib.Core.Path.{_≡_};
-ghost use Prim.Native.Nat.{_+_, _-_, _≤_, _<_, min};
-ghost use lib.ListN.{length};
+ghost use Prim.Native.Nat.{_-_, min};
 ghost use Rattle.refusals.specs.Numbers.{sourceLimit};
-ghost use Rattle.classes.specs.Classes.{classOf};
-ghost use Rattle.lexer.specs.Tokens.{answerOf};
-ghost use Rattle.feeder.specs.Machine.{Blank, Line, Opener, Symbol, Sign, Block, Zero, Digits, begun, half};
+ghost use Rattle.feeder.specs.Machine.{Blank, Line, Opener, Symbol};
 ghost use Rattle.feeder.specs.Feeding.{feedFrom, fedOf};
-ghost use Rattle.feeder.specs.Code.{call, moved, Further, Span, insideOf, endedOf};
+ghost use Rattle.feeder.specs.Code.{call, moved, Further, Span};
 
 // Where a run ends: in a mode before a byte of the piece; with a token or a refusal, and the bytes consumed.
 pub enum Moved {
     On(Mode, usize),
     Give(Token, usize, usize),
     Halt(Refusal, usize),
-}
-
-// A block comment is left, or goes on at a depth.
-pub enum Inside {
-    Out,
-    In(usize, Half),
-}
-
-// What is held ends before the byte at i, as the source's end would end it.
-fn ended(last: Lexed, i: usize) -> Moved
-    ensures { λ r. ⌜ r ≡ endedOf last i ⌝ }
-{
-    match last {
-        Lexed::Token(t, start) => Moved::Give(t, start, i),
-        Lexed::Refused(r) => Moved::Halt(r, i),
-        Lexed::End => Moved::Halt(
-            Refusal {
-                number: 0,
-                place: 0,
-            },
-            i,
-        ),
-    }
-}
-
-// A literal's first digit: `0` may begin a prefix.
-fn begun_by(start: usize, minus: bool, b: u8) -> Mode
-    ensures { λ r. ⌜ r ≡ begun start minus b ⌝ }
-{
-    if b == 48 {
-        return Mode::Zero { start, minus };
-    }
-    Mode::Digits {
-        start,
-        minus,
-        radix: 10,
-        reading: lexer::literal::grow(10, Reading::Empty, b),
-    }
 }
 
 fn in_blank(piece: &[u8], place: usize, i: usize, stop: usize) -> Moved
@@ -160,156 +121,6 @@ fn in_symbol(piece: &[u8], place: usize, i: usize, stop: usize, start: usize) ->
         }
     }
     Moved::On(Mode::Symbol { start }, j)
-}
-
-fn in_sign(piece: &[u8], place: usize, i: usize, stop: usize, start: usize) -> Moved
-    requires { ⌜ Span (now piece) place i stop ⌝ }
-    ensures { λ r. ⌜ Further i stop r × (moved (now (piece .entry)) place r ≡ call (now (piece .entry)) place i (Sign start)) ⌝ }
-{
-    let b = piece[i];
-    if classes::is_literal_byte(b) {
-        return Moved::On(begun_by(start, true, b), i + 1);
-    }
-    Moved::Halt(
-        Refusal {
-            number: refusals::NO_DIGITS,
-            place: start,
-        },
-        i,
-    )
-}
-
-// Half of `(;` or `;)`, by the byte that was just consumed.
-fn half_of(b: u8) -> Half
-    ensures { λ r. ⌜ r ≡ half (classOf b) ⌝ }
-{
-    if b == 59 {
-        return Half::Semi;
-    }
-    if b == 40 {
-        return Half::Paren;
-    }
-    Half::Clear
-}
-
-// One more byte inside a block comment.
-fn inside_by(b: u8, depth: usize, half: Half) -> Inside
-    ensures { λ r. ⌜ r ≡ insideOf (classOf b) depth half ⌝ }
-{
-    match half {
-        Half::Clear => Inside::In(depth, half_of(b)),
-        Half::Semi => {
-            if b == 41 {
-                if depth <= 1 {
-                    return Inside::Out;
-                }
-                return Inside::In(depth - 1, Half::Clear);
-            }
-            Inside::In(depth, half_of(b))
-        }
-        Half::Paren => {
-            if b == 59 {
-                if depth < refusals::SOURCE_LIMIT {
-                    return Inside::In(depth + 1, Half::Clear);
-                }
-                return Inside::In(depth, Half::Clear);
-            }
-            Inside::In(depth, half_of(b))
-        }
-    }
-}
-
-fn in_block(
-    piece: &[u8],
-    place: usize,
-    i: usize,
-    stop: usize,
-    start: usize,
-    depth: usize,
-    half: Half,
-) -> Moved
-    requires { ⌜ Span (now piece) place i stop ⌝ }
-    ensures { λ r. ⌜ Further i stop r × (moved (now (piece .entry)) place r ≡ call (now (piece .entry)) place i (Block start depth half)) ⌝ }
-{
-    let mut j = i;
-    let mut d = depth;
-    let mut h = half;
-    while j < stop {
-        match inside_by(piece[j], d, h) {
-            Inside::Out => {
-                return Moved::On(Mode::Blank, j + 1);
-            }
-            Inside::In(e, k) => {
-                d = e;
-                h = k;
-                j += 1;
-            }
-        }
-    }
-    Moved::On(
-        Mode::Block {
-            start,
-            depth: d,
-            half: h,
-        },
-        j,
-    )
-}
-
-fn in_digits(
-    piece: &[u8],
-    place: usize,
-    i: usize,
-    stop: usize,
-    start: usize,
-    minus: bool,
-    radix: u8,
-    reading: Reading,
-) -> Moved
-    requires { ⌜ Span (now piece) place i stop ⌝ }
-    ensures { λ r. ⌜ Further i stop r × (moved (now (piece .entry)) place r ≡ call (now (piece .entry)) place i (Digits start minus radix reading)) ⌝ }
-{
-    let mut j = i;
-    let mut x = reading;
-    while j < stop {
-        let b = piece[j];
-        if classes::is_literal_byte(b) {
-            x = lexer::literal::grow(radix, x, b);
-            j += 1;
-        } else {
-            return ended(lexer::literal::concluded(minus, start, place + j, x), j);
-        }
-    }
-    Moved::On(
-        Mode::Digits {
-            start,
-            minus,
-            radix,
-            reading: x,
-        },
-        j,
-    )
-}
-
-// After a literal's leading `0`: a prefix, or a digit like any other.
-fn in_zero(piece: &[u8], place: usize, i: usize, stop: usize, start: usize, minus: bool) -> Moved
-    requires { ⌜ Span (now piece) place i stop ⌝ }
-    ensures { λ r. ⌜ Further i stop r × (moved (now (piece .entry)) place r ≡ call (now (piece .entry)) place i (Zero start minus)) ⌝ }
-{
-    let radix = lexer::literal::radix_of(48, piece[i]);
-    let zero = Reading::Number(Limbs { hi: 0, lo: 0 });
-    if radix == 10 {
-        return in_digits(piece, place, i, stop, start, minus, 10, zero);
-    }
-    Moved::On(
-        Mode::Digits {
-            start,
-            minus,
-            radix,
-            reading: Reading::Empty,
-        },
-        i + 1,
-    )
 }
 
 // The run of bytes from i on, in any mode.

@@ -1,4 +1,4 @@
--- `feeder::runs::in_digits`: at each place, what is left of the call is what was left at the start.
+-- `feeder::literals::in_digits`: at each place, what is left of the call is what was left at the start.
 use Prim.Native.Nat.{ℕ, _+_, _-_, _≤_, _<_}
 use mathlib.Core.Path.{_≡_, refl, sym, ap, _∙_}
 use mathlib.Core.List.{List}
@@ -10,8 +10,8 @@ use Rattle.feeder.specs.Code.{call}
 use Rattle.lexer.specs.Literals.{grow}
 use Rattle.feeder.specs.Machine.{Digits, turn}
 use Rattle.feeder.proofs.Calls.{call-go, call-ends, ended-stops}
-use Rattle.feeder.proofs.runs.in_digits.Statement.{statement}
-use Rattle.feeder.proofs.runs.in_digits.Tie as tie
+use Rattle.feeder.proofs.literals.in_digits.Statement.{statement}
+use Rattle.feeder.proofs.literals.in_digits.Tie as tie
 
 abbrev Inv-loop : tie.InvT-loop
 Inv-loop piece place i stop start minus radix j₀ x₀ j x = (i ≤ j) × (j ≤ stop) × (call piece place j (Digits start minus radix x) ≡ call piece place i (Digits start minus radix x₀))

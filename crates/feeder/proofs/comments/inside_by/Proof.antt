@@ -1,10 +1,10 @@
--- `feeder::runs::inside_by`: a line for each half and test.
+-- `feeder::comments::inside_by`: a line for each half and test.
 use mathlib.Core.Path.{refl}
 use borrow.Author.Tests.{eq-eqb, ne-eqb, le-leb, lt-leb, lt-ltb, le-ltb}
 use Rattle.classes.proofs.Signs.{is-rparen, is-semicolon}
 use borrow.Author.Needs.{needs}
-use Rattle.feeder.proofs.runs.inside_by.Statement.{statement}
-use Rattle.feeder.proofs.runs.inside_by.Tie as tie
+use Rattle.feeder.proofs.comments.inside_by.Statement.{statement}
+use Rattle.feeder.proofs.comments.inside_by.Tie as tie
 
 enum-told : tie.Need-enum-told
 enum-told c = search needs

@@ -1,10 +1,10 @@
--- `feeder::runs::half_of`: the tests on the byte are those on its class.
+-- `feeder::comments::half_of`: the tests on the byte are those on its class.
 use mathlib.Core.Path.{refl}
 use borrow.Author.Needs.{needs}
 use borrow.Author.Tests.{eq-eqb, ne-eqb}
 use Rattle.classes.proofs.Signs.{is-lparen, is-semicolon}
-use Rattle.feeder.proofs.runs.half_of.Statement.{statement}
-use Rattle.feeder.proofs.runs.half_of.Tie as tie
+use Rattle.feeder.proofs.comments.half_of.Statement.{statement}
+use Rattle.feeder.proofs.comments.half_of.Tie as tie
 
 returns : tie.Need-returns
 returns c = let b = c .before .args .b in rw (← is-semicolon b (search needs), eq-eqb b 59 (c .if1 .taken)) refl

@@ -1,7 +1,7 @@
--- `feeder::runs::ended`: a line for each case.
+-- `feeder::literals::ended`: a line for each case.
 use borrow.Author.Needs.{needs}
-use Rattle.feeder.proofs.runs.ended.Statement.{statement}
-use Rattle.feeder.proofs.runs.ended.Tie as tie
+use Rattle.feeder.proofs.literals.ended.Statement.{statement}
+use Rattle.feeder.proofs.literals.ended.Tie as tie
 
 enum-known-last : tie.Need-enum-known-last
 enum-known-last c = search needs

@@ -1,4 +1,4 @@
--- `feeder::runs::in_zero`: a prefix, or the digits after a leading `0`.
+-- `feeder::literals::in_zero`: a prefix, or the digits after a leading `0`.
 use mathlib.Core.Path.{_≡_, refl, sym, _∙_}
 use mathlib.Core.Bool.{false}
 use native.Mathlib.Omega.{arith}
@@ -12,8 +12,8 @@ use Rattle.lexer.specs.Literals.{radixOf}
 use Rattle.feeder.specs.Machine.{Zero, Digits, turn}
 use Rattle.feeder.proofs.Calls.{call-go, same-turn}
 use borrow.Author.Needs.{needs}
-use Rattle.feeder.proofs.runs.in_zero.Statement.{statement}
-use Rattle.feeder.proofs.runs.in_zero.Tie as tie
+use Rattle.feeder.proofs.literals.in_zero.Statement.{statement}
+use Rattle.feeder.proofs.literals.in_zero.Tie as tie
 
 shared-slice-read-radix-of : tie.Need-shared-slice-read-radix-of
 shared-slice-read-radix-of c = search needs

@@ -1,4 +1,4 @@
--- `feeder::runs::in_block`: at each place, what is left of the call is what was left at the start.
+-- `feeder::comments::in_block`: at each place, what is left of the call is what was left at the start.
 use Prim.Native.Nat.{ℕ, _+_, _-_, _≤_, _<_}
 use mathlib.Core.Path.{_≡_, refl, sym, ap, _∙_}
 use mathlib.Core.List.{List}
@@ -10,8 +10,8 @@ use Rattle.feeder.specs.Code.{call}
 use Rattle.classes.specs.Classes.{classOf}
 use Rattle.feeder.specs.Machine.{Blank, Block, Go, inBlock, turn}
 use Rattle.feeder.proofs.Calls.{call-go, modeOf, inside-is}
-use Rattle.feeder.proofs.runs.in_block.Statement.{statement}
-use Rattle.feeder.proofs.runs.in_block.Tie as tie
+use Rattle.feeder.proofs.comments.in_block.Statement.{statement}
+use Rattle.feeder.proofs.comments.in_block.Tie as tie
 
 abbrev Inv-loop : tie.InvT-loop
 Inv-loop piece place i stop start depth j₀ d₀ h₀ j d h = (i ≤ j) × (j ≤ stop) × (call piece place j (Block start d h) ≡ call piece place i (Block start depth h₀))

@@ -1,8 +1,8 @@
--- `feeder::runs::begun_by`: a leading `0`, or any other digit.
+-- `feeder::literals::begun_by`: a leading `0`, or any other digit.
 use borrow.Author.Tests.{eq-eqb, ne-eqb}
 use borrow.Author.Needs.{needs}
-use Rattle.feeder.proofs.runs.begun_by.Statement.{statement}
-use Rattle.feeder.proofs.runs.begun_by.Tie as tie
+use Rattle.feeder.proofs.literals.begun_by.Statement.{statement}
+use Rattle.feeder.proofs.literals.begun_by.Tie as tie
 
 returns : tie.Need-returns
 returns c = simp (eq-eqb _ _ (c .if1 .taken))

@@ -1,12 +1,12 @@
--- `feeder::runs::in_sign`: the first digit, or no digits.
+-- `feeder::literals::in_sign`: the first digit, or no digits.
 use mathlib.Core.Path.{_≡_, refl, sym, _∙_}
 use native.Mathlib.Omega.{arith}
 use denote.Ref.{now}
 use Rattle.feeder.specs.Machine.{Sign, turn}
 use Rattle.feeder.proofs.Calls.{call-go, call-halt}
 use borrow.Author.Needs.{needs}
-use Rattle.feeder.proofs.runs.in_sign.Statement.{statement}
-use Rattle.feeder.proofs.runs.in_sign.Tie as tie
+use Rattle.feeder.proofs.literals.in_sign.Statement.{statement}
+use Rattle.feeder.proofs.literals.in_sign.Tie as tie
 
 shared-slice-read-b : tie.Need-shared-slice-read-b
 shared-slice-read-b c = search needs
