@@ -254,7 +254,7 @@ pub record OneAnswer : Type 0 where
   pub lexer·literal·concluded : (minus : Bool) (start end : ℕ) (x : Reading) → OneHeld Lexed LexedFits (λ r. answerOf r ≡ concluded minus start end x)
   pub lexer·next-token : (src : List ℕ) (at : ℕ) → OneHeld Lexed LexedFits (λ r. answerOf r ≡ nextToken src at)
   pub feeder·fresh : One State (λ r. r ≡ freshState)
-  pub feeder·runs·fed-live : (mode : Mode) (place : ℕ) (piece : List ℕ) → OneHeld Fed FedFits (λ r. fedOf r ≡ feedFrom mode place piece)
+  pub feeder·fed-live : (mode : Mode) (place : ℕ) (piece : List ℕ) → OneHeld Fed FedFits (λ r. fedOf r ≡ feedFrom mode place piece)
   pub feeder·feed : (s : State) (piece : List ℕ) → OneHeld Fed FedFits (λ r. fedOf r ≡ feedOf s piece)
   pub feeder·close : (s : State) → OneHeld Fed FedFits (λ r. fedOf r ≡ closeOf s)
   pub feeder-lent·feed-in : (s : State) (piece : List ℕ) → BothHeld Out State OutFits (λ r exit. fedOf (record { out = r; state = exit }) ≡ feedOf s piece)
@@ -295,7 +295,7 @@ one-answer = record {
   lexer·literal·concluded = λ minus start end x. held LexedFits answerOf answer-same _;
   lexer·next-token = λ src at. held LexedFits answerOf answer-same _;
   feeder·fresh = one _;
-  feeder·runs·fed-live = λ mode place piece. held FedFits fedOf fed-same _;
+  feeder·fed-live = λ mode place piece. held FedFits fedOf fed-same _;
   feeder·feed = λ s piece. held FedFits fedOf fed-same _;
   feeder·close = λ s. held FedFits fedOf fed-same _;
   feeder-lent·feed-in = λ s piece. fed-lent _;
