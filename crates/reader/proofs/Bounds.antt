@@ -163,9 +163,9 @@ binding-spans s t u x b h e w =
     let o : Onward s t (is u) = subst (Onward s t) e (onward s t h) in
     let q = onward s u (subst (Lexes s) e (next-of s t)) in
     let m : length (record-of 3 (nameOf s t)) ≡ t .size + 6 =
-        length-record 3 (nameOf s t) ∙ ap (λ (k : ℕ). k + 6) (name-length s t (omega (arith, o .to, o .top))) in
+    length-record 3 (nameOf s t) ∙ ap (λ (k : ℕ). k + 6) (name-length s t (omega (arith, o .to, o .top))) in
     let n : length (record-of 3 (nameOf s t) ++ records x) ≡ t .size + 6 + length (records x) =
-        length-append (record-of 3 (nameOf s t)) (records x) ∙ ap (λ (k : ℕ). k + length (records x)) m in
+    length-append (record-of 3 (nameOf s t)) (records x) ∙ ap (λ (k : ℕ). k + length (records x)) m in
     record {
       lexes = w .lexes;
       on = omega (arith, o .some, o .to, q .some, q .to, w .on);
@@ -182,7 +182,7 @@ list-spans s t u xs h w =
     let q = onward s u (w .lexes) in
     let m : length (record-of 4 (le 4 (count xs))) ≡ 10 = length-record 4 (le 4 (count xs)) ∙ ap (λ (k : ℕ). k + 6) (le-length 4 (count xs)) in
     let n : length (record-of 4 (le 4 (count xs)) ++ recordsOf xs) ≡ 10 + length (recordsOf xs) =
-        length-append (record-of 4 (le 4 (count xs))) (recordsOf xs) ∙ ap (λ (k : ℕ). k + length (recordsOf xs)) m in
+    length-append (record-of 4 (le 4 (count xs))) (recordsOf xs) ∙ ap (λ (k : ℕ). k + length (recordsOf xs)) m in
     record {
       lexes = next-of s u;
       on = omega (arith, o .some, o .to, q .some, q .to, w .on);
@@ -193,6 +193,7 @@ list-spans s t u xs h w =
 
 mutual
   unfolding Derives records
+
   pub spans : (x : Tree) (s : List ℕ) (d : ℕ) (a b : Answer) → Lexes s a → Derives x s d a b → Spans s a b (length (records x))
   spans (symbolTree n) s d a b h w =
       let t = w .0 in

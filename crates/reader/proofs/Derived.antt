@@ -119,8 +119,11 @@ tree-is s zero a = of-token-is s zero false (λ _. ended) (λ _. none-of 0 0) (�
 tree-is s (suc d) a =
     let j : suc d - 1 ≡ d = omega arith in
     of-token-is s (suc d) true (readTree s d) (readItems (readTree s d) (suc (length s)))
-    (λ _. (omega arith, subst⁻¹ (λ (k : ℕ). OnesAre s k (readTree s d)) j (tree-is s d),
-    subst⁻¹ (λ (k : ℕ). ManiesAre s k (readItems (readTree s d) (suc (length s)))) j (items-are s d (readTree s d) (tree-is s d) (suc (length s))))) a
+    (λ _. (
+      omega arith,
+      subst⁻¹ (λ (k : ℕ). OnesAre s k (readTree s d)) j (tree-is s d),
+      subst⁻¹ (λ (k : ℕ). ManiesAre s k (readItems (readTree s d) (suc (length s)))) j (items-are s d (readTree s d) (tree-is s d) (suc (length s))),
+    )) a
 
 pub items-is : (s : List ℕ) (d k : ℕ) → ManiesAre s d (readItems (readTree s d) k)
 items-is s d k = items-are s d (readTree s d) (tree-is s d) k

@@ -70,10 +70,11 @@ reads-refused s t n p e r f = (f ∙ sym (ap (λ (x : File). answered x (length 
 pub reads-short : (s t : List ℕ) (b : Answer) (n : ℕ) → Whole s b n → length t < n → (r : Read) → r ≡ no tableRoom n → Reads s t t r
 unfolding reading readInto
 reads-short s t b n w h r f =
-    let k : leb (length (recordsOf (w .trees))) (length t) ≡ false = lt-leb (length (recordsOf (w .trees))) (length t) (omega (arith, w .size)) in
-    (f ∙ sym (ap (λ (x : File). answered x (length t)) (w .is)
-    ∙ ap (λ (c : Bool). cond c (table (length (recordsOf (w .trees)))) (no tableRoom (length (recordsOf (w .trees))))) k ∙ ap (no tableRoom) (w .size)),
-    sym (ap (λ (x : File). leaves x t) (w .is) ∙ ap (λ (c : Bool). cond c (over (recordsOf (w .trees)) t) t) k))
+    let k : leb (length (recordsOf (w .trees))) (length t) ≡ false = lt-leb (length (recordsOf (w .trees))) (length t) (omega (arith, w .size)) in (
+      f ∙ sym (ap (λ (x : File). answered x (length t)) (w .is)
+          ∙ ap (λ (c : Bool). cond c (table (length (recordsOf (w .trees)))) (no tableRoom (length (recordsOf (w .trees))))) k ∙ ap (no tableRoom) (w .size)),
+      sym (ap (λ (x : File). leaves x t) (w .is) ∙ ap (λ (c : Bool). cond c (over (recordsOf (w .trees)) t) t) k),
+    )
 
 pub rooms-whole : (s t : List ℕ) (b : Answer) (n : ℕ) → Whole s b n → n ≤ length t
     → Rooms (readItems (readTree s depthLimit) (suc (length s)) b) (length t)
@@ -83,8 +84,9 @@ pub reads-whole : (s t t′ : List ℕ) (b : Answer) (n : ℕ) → Whole s b n �
     → t′ ≡ over (allRecordsIn (readItems (readTree s depthLimit) (suc (length s)) b)) t → Reads s t t′ (table n)
 unfolding reading readInto
 reads-whole s t t′ b n w h e =
-    let k : leb (length (recordsOf (w .trees))) (length t) ≡ true = le-leb (length (recordsOf (w .trees))) (length t) (omega (arith, w .size)) in
-    (sym (ap (λ (x : File). answered x (length t)) (w .is)
-    ∙ ap (λ (c : Bool). cond c (table (length (recordsOf (w .trees)))) (no tableRoom (length (recordsOf (w .trees))))) k ∙ ap table (w .size)),
-    e ∙ ap (λ (y : Many). over (allRecordsIn y) t) (w .items)
-    ∙ sym (ap (λ (x : File). leaves x t) (w .is) ∙ ap (λ (c : Bool). cond c (over (recordsOf (w .trees)) t) t) k))
+    let k : leb (length (recordsOf (w .trees))) (length t) ≡ true = le-leb (length (recordsOf (w .trees))) (length t) (omega (arith, w .size)) in (
+      sym (ap (λ (x : File). answered x (length t)) (w .is)
+          ∙ ap (λ (c : Bool). cond c (table (length (recordsOf (w .trees)))) (no tableRoom (length (recordsOf (w .trees))))) k ∙ ap table (w .size)),
+      e ∙ ap (λ (y : Many). over (allRecordsIn y) t) (w .items)
+          ∙ sym (ap (λ (x : File). leaves x t) (w .is) ∙ ap (λ (c : Bool). cond c (over (recordsOf (w .trees)) t) t) k),
+    )

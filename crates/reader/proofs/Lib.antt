@@ -8,3 +8,8 @@ pub mod Arms
 pub mod Written
 pub mod Rooms
 pub mod Files
+pub mod Good
+pub mod Speech
+pub mod Accepts
+pub mod Wrong
+pub mod Same

@@ -43,6 +43,6 @@ pub copied : (s b₀ b : List ℕ) (st i : ℕ) → Wrote (take i (drop st s)) b
     → Wrote (take (i + 1) (drop st s)) b₀ (set b i (getD s (st + i) 0)) (i + 1)
 copied s b₀ b st i w h k =
     let e : take (i + 1) (drop st s) ≡ take i (drop st s) ++ (getD s (st + i) 0 ∷ []) =
-        ap (λ (j : ℕ). take j (drop st s)) (add-one i) ∙ take-suc (drop st s) i 0 (rw (length-drop st s) (omega arith))
-        ∙ ap (λ (x : ℕ). take i (drop st s) ++ (x ∷ [])) (getD-drop st s i 0) in
+    ap (λ (j : ℕ). take j (drop st s)) (add-one i) ∙ take-suc (drop st s) i 0 (rw (length-drop st s) (omega arith))
+    ∙ ap (λ (x : ℕ). take i (drop st s) ++ (x ∷ [])) (getD-drop st s i 0) in
     subst⁻¹ (λ (o : List ℕ). Wrote o b₀ (set b i (getD s (st + i) 0)) (i + 1)) e (wrote-set w (getD s (st + i) 0) k)

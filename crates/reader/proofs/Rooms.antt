@@ -101,7 +101,7 @@ listed-room : (s : List ℕ) (t : Token) (k : ℕ) (y : Many) → Room (listed s
 unfolding records
 listed-room s t k (upTo xs u) r =
     let g : length (record-of 4 (le 4 (count xs)) ++ recordsOf xs) ≡ 10 + length (recordsOf xs) =
-        simp (length-append, length-record, le-length) (omega arith) in
+    simp (length-append, length-record, le-length) (omega arith) in
     (omega arith, omega arith)
 listed-room s t k (toEnd xs) r = absurd r
 listed-room s t k (none-of m p) r = absurd r
@@ -119,7 +119,7 @@ front : (h e b ys b′ : List ℕ) (w : ℕ) → length h ≡ w → w ≤ length
 front h e b ys b′ w eh le ey eb =
     let nothing : drop (length b - w) (drop w b) ≡ [] = drop-of-length-le (drop w b) {i = length b - w} (simp length-drop (omega arith)) in
     let tail : drop w (putMid w (length b - w) b ys) ≡ ys =
-        drop-at (take w b) (ys ++ drop (length b - w) (drop w b)) w (length-take-le w b le) ∙ rw nothing (append-nil ys) in
+    drop-at (take w b) (ys ++ drop (length b - w) (drop w b)) w (length-take-le w b le) ∙ rw nothing (append-nil ys) in
     let ys′ : ys ≡ e ++ drop (w + length e) b = ey ∙ rw part-drop (ap (λ (r : List ℕ). e ++ r) (drop-drop (length e) w b)) in
     eb ∙ ap (λ (j : ℕ). h ++ drop j (putMid w (length b - w) b ys)) eh ∙ ap (λ (r : List ℕ). h ++ r) (tail ∙ ys′)
     ∙ simp (append-assoc, length-append, eh)

@@ -69,7 +69,7 @@ list-size s t d k a h = by (readItems (readTree s d) k a) (items-is s d k a)
         let one : u .size ≡ 1 = one-byte s u (spans-all xs s d a (is u) h (w .0) .lexes) (w .1) in
         let p : u .start + 1 ≡ past u = ap (λ (k : ℕ). u .start + k) (sym one) in
         let n : length (recordsOf xs) + 10 ≡ length (record-of 4 (le 4 (count xs)) ++ recordsOf xs) =
-            simp (length-append, length-record, le-length) (omega arith) in
+        simp (length-append, length-record, le-length) (omega arith) in
         ap (λ (m : ℕ). takes m (nextToken s (u .start + 1))) n
         ∙ ap (λ (q : ℕ). takes (length (record-of 4 (le 4 (count xs)) ++ recordsOf xs)) (nextToken s q)) p
     by (toEnd xs) w = refl

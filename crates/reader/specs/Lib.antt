@@ -1,4 +1,5 @@
 pub mod Grammar
 pub mod Reading
 pub mod Sizes
+pub mod Nesting
 pub mod Cases

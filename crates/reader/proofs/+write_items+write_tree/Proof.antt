@@ -75,9 +75,14 @@ write-items-μ-loop src depth buf₀ tok₀ n₀ size₀ buf tok n size = length
 
 write-items-loop-holds : (t : ℕ) → write-items-lts.Need-loop-holds (write-items-calls t) (write-items-at t) write-items.Post write-items-Inv-loop write-items-μ-loop
 write-items-loop-holds t c =
-    let a = c .before .before in
-    (a .pre .1 .0, omega arith, omega arith, refl, plus-none _ (length (a .args .src .now)) (answerOf (a .args .first)),
-    left-all _ (length (a .args .src .now)) _ (a .args .buf .now) (a .pre .1 .1))
+    let a = c .before .before in (
+      a .pre .1 .0,
+      omega arith,
+      omega arith,
+      refl,
+      plus-none _ (length (a .args .src .now)) (answerOf (a .args .first)),
+      left-all _ (length (a .args .src .now)) _ (a .args .buf .now) (a .pre .1 .1),
+    )
 
 write-items-sub-write-tree : (t : ℕ) → write-items-lts.Need-sub-write-tree (write-items-calls t) (write-items-at t) write-items.Post write-items-Inv-loop write-items-μ-loop
 write-items-sub-write-tree t c = search needs
@@ -182,9 +187,14 @@ write-items-loop-again t c =
     let e = told _ _ (w .write-tree .ensures .0) (c .before .one3 .given .1) in
     let q = one-spans _ _ _ _ _ (l .inv .0) e in
     let k = item-took _ _ (l .n) _ _ _ _ (l .inv .5 .room) (omega (arith, l .inv .1, place-top _ _ (l .inv .0))) e in
-    let m = wrote-lent (l .inv .5 .wrote) (recordsIn (readTree _ _ _)) _ _ (k .2) (omega (arith, k .3, l .inv .5 .wrote .within)) (w .write-tree .ensures .1) in
-    (q .lexes, omega (arith, q .on, l .inv .1), omega (arith, m .within, wrote-length m), wrote-length m,
-    l .inv .4 ∙ items-turn _ _ (l .n) (l .size) _ _ (omega (arith, l .inv .1, place-top _ _ (l .inv .0))) e, more-left (l .inv .5) (recordsIn (readTree _ _ _)) _ m (k .1) (k .0))
+    let m = wrote-lent (l .inv .5 .wrote) (recordsIn (readTree _ _ _)) _ _ (k .2) (omega (arith, k .3, l .inv .5 .wrote .within)) (w .write-tree .ensures .1) in (
+      q .lexes,
+      omega (arith, q .on, l .inv .1),
+      omega (arith, m .within, wrote-length m),
+      wrote-length m,
+      l .inv .4 ∙ items-turn _ _ (l .n) (l .size) _ _ (omega (arith, l .inv .1, place-top _ _ (l .inv .0))) e,
+      more-left (l .inv .5) (recordsIn (readTree _ _ _)) _ m (k .1) (k .0),
+    )
 
 write-tree-enum-told : (t : ℕ) → write-tree-lts.Need-enum-told (write-tree-calls t) (write-tree-at t) write-tree.Post
 write-tree-enum-told t c = search needs
@@ -382,10 +392,11 @@ write-tree-returns-2 t c =
     let f = n .before .before in
     let k = f .before .before in
     let a = k .before .before .before .before .before in
-    let e = k .before .tok2 .given .1 in
-    (bind-deep-size _ _ _ _ _ e _ _ _ _ _ (f .t2 .given .1) (n .next-token3 .ensures) (g .sign-of .ensures) (h .before .sign .given .1) (c .before .if2 .taken)
-    (c .no3 .ensures),
-    untouched _ (bind-deep-read _ _ _ _ _ e _ _ _ _ (f .t2 .given .1) (n .next-token3 .ensures) (g .sign-of .ensures) (h .before .sign .given .1) (c .before .if2 .taken)) refl)
+    let e = k .before .tok2 .given .1 in (
+      bind-deep-size _ _ _ _ _ e _ _ _ _ _ (f .t2 .given .1) (n .next-token3 .ensures) (g .sign-of .ensures) (h .before .sign .given .1) (c .before .if2 .taken)
+          (c .no3 .ensures),
+      untouched _ (bind-deep-read _ _ _ _ _ e _ _ _ _ (f .t2 .given .1) (n .next-token3 .ensures) (g .sign-of .ensures) (h .before .sign .given .1) (c .before .if2 .taken)) refl,
+    )
 
 write-tree-put-name-requires-2 : (t : ℕ) → write-tree-lts.Need-put-name-requires-2 (write-tree-calls t) (write-tree-at t) write-tree.Post
 write-tree-put-name-requires-2 t c κs =
@@ -395,9 +406,10 @@ write-tree-put-name-requires-2 t c κs =
     let f = n .before .before in
     let k = f .before .before in
     let a = k .before .before .before .before .before in
-    let e = k .before .tok2 .given .1 in
-    (hand-in _ _ _ _ _ (a .pre .1 .0) e (f .t2 .given .1),
-    bind-room _ _ _ _ _ e _ _ _ _ _ (a .pre .1 .0) (f .t2 .given .1) (n .next-token3 .ensures) (g .sign-of .ensures) (h .before .sign .given .1) (c .before .if2 .left) refl _ (a .pre .1 .1))
+    let e = k .before .tok2 .given .1 in (
+      hand-in _ _ _ _ _ (a .pre .1 .0) e (f .t2 .given .1),
+      bind-room _ _ _ _ _ e _ _ _ _ _ (a .pre .1 .0) (f .t2 .given .1) (n .next-token3 .ensures) (g .sign-of .ensures) (h .before .sign .given .1) (c .before .if2 .left) refl _ (a .pre .1 .1),
+    )
 
 write-tree-next-token-requires-4 : (t : ℕ) → write-tree-lts.Need-next-token-requires-4 (write-tree-calls t) (write-tree-at t) write-tree.Post
 write-tree-next-token-requires-4 t c κs = search needs
@@ -475,9 +487,13 @@ write-tree-write-tree-requires t c κs =
     let a = k .before .before .before .before .before in
     let e = k .before .tok2 .given .1 in
     let u = hand-next _ _ _ _ _ _ (a .pre .1 .0) e (f .t2 .given .1) (n .next-token3 .ensures) in
-    let w = sign-further _ _ _ _ _ (u .lexes) (g .sign-of .ensures) (h .before .sign .given .1) (v .next-token4 .ensures) in
-    (omega (arith, u .on, w .on, w .top), (w .lexes,
-    bind-part _ _ _ _ _ e _ _ _ _ _ (a .pre .1 .0) (f .t2 .given .1) (n .next-token3 .ensures) (g .sign-of .ensures) (h .before .sign .given .1) (j .before .before .if2 .left) (v .next-token4 .ensures) (a .args .buf .now) _ (a .pre .1 .1) (j .put-name2 .ensures)))
+    let w = sign-further _ _ _ _ _ (u .lexes) (g .sign-of .ensures) (h .before .sign .given .1) (v .next-token4 .ensures) in (
+      omega (arith, u .on, w .on, w .top),
+      (
+        w .lexes,
+        bind-part _ _ _ _ _ e _ _ _ _ _ (a .pre .1 .0) (f .t2 .given .1) (n .next-token3 .ensures) (g .sign-of .ensures) (h .before .sign .given .1) (j .before .before .if2 .left) (v .next-token4 .ensures) (a .args .buf .now) _ (a .pre .1 .1) (j .put-name2 .ensures),
+      ),
+    )
 
 write-tree-bound-requires : (t : ℕ) → write-tree-lts.Need-bound-requires (write-tree-calls t) (write-tree-at t) write-tree.Post
 write-tree-bound-requires t c κs =
@@ -542,9 +558,10 @@ write-tree-returns-8 t c =
     let a = k .before .before .before .before .before in
     let e = k .before .tok2 .given .1 in
     let f = n .before .before .enum-told4 .given .1 in
-    let r = a .pre .1 .1 in
-    (listed-size _ _ _ _ _ e _ _ _ f (n .before .if1 .left) (n .next-token2 .ensures) (i .write-items .ensures .0) (c .listed .ensures),
-    paren-written _ _ _ _ _ e _ f (n .before .if1 .left) (n .next-token2 .ensures) _ _ (a .args .buf .now) _ _ r (i .write-items .ensures .0) (o .count-of .ensures) (i .write-items .ensures .1) (p .put-list .ensures))
+    let r = a .pre .1 .1 in (
+      listed-size _ _ _ _ _ e _ _ _ f (n .before .if1 .left) (n .next-token2 .ensures) (i .write-items .ensures .0) (c .listed .ensures),
+      paren-written _ _ _ _ _ e _ f (n .before .if1 .left) (n .next-token2 .ensures) _ _ (a .args .buf .now) _ _ r (i .write-items .ensures .0) (o .count-of .ensures) (i .write-items .ensures .1) (p .put-list .ensures),
+    )
 
 write-tree-same-length-3 : (t : ℕ) → write-tree-lts.Need-same-length-3 (write-tree-calls t) (write-tree-at t) write-tree.Post
 write-tree-same-length-3 t c = search needs
@@ -558,9 +575,10 @@ write-tree-returns-9 t c =
     let k = f .before .before in
     let a = k .before .before .before .before .before in
     let e = k .before .tok2 .given .1 in
-    let r = name-read _ _ _ _ _ e _ _ _ (f .t2 .given .1) (n .next-token3 .ensures) (g .sign-of .ensures) (h .enum-told5 .given .1) in
-    (name-size _ _ _ _ _ e _ _ _ (a .pre .1 .0) (f .t2 .given .1) (n .next-token3 .ensures) (g .sign-of .ensures) (h .enum-told5 .given .1),
-    symbol-written _ _ _ r (c .before .before .put-name .ensures))
+    let r = name-read _ _ _ _ _ e _ _ _ (f .t2 .given .1) (n .next-token3 .ensures) (g .sign-of .ensures) (h .enum-told5 .given .1) in (
+      name-size _ _ _ _ _ e _ _ _ (a .pre .1 .0) (f .t2 .given .1) (n .next-token3 .ensures) (g .sign-of .ensures) (h .enum-told5 .given .1),
+      symbol-written _ _ _ r (c .before .before .put-name .ensures),
+    )
 
 write-tree-same-length-4 : (t : ℕ) → write-tree-lts.Need-same-length-4 (write-tree-calls t) (write-tree-at t) write-tree.Post
 write-tree-same-length-4 t c = search needs
@@ -576,10 +594,11 @@ write-tree-returns-10 t c =
     let f = n .before .before in
     let k = f .before .before in
     let a = k .before .before .before .before .before in
-    let e = k .before .tok2 .given .1 in
-    (bound-size _ _ _ _ _ e _ _ _ _ _ _ _ (a .pre .1 .0) (f .t2 .given .1) (n .next-token3 .ensures) (g .sign-of .ensures) (h .before .sign .given .1)
-    (j .before .before .if2 .left) (v .next-token4 .ensures) (i .write-tree .ensures .0) (c .bound .ensures),
-    bind-written _ _ _ _ _ e _ _ _ _ _ (a .pre .1 .0) (f .t2 .given .1) (n .next-token3 .ensures) (g .sign-of .ensures) (h .before .sign .given .1) (j .before .before .if2 .left) (v .next-token4 .ensures) (a .args .buf .now) _ _ (a .pre .1 .1) (j .put-name2 .ensures) (i .write-tree .ensures .1))
+    let e = k .before .tok2 .given .1 in (
+      bound-size _ _ _ _ _ e _ _ _ _ _ _ _ (a .pre .1 .0) (f .t2 .given .1) (n .next-token3 .ensures) (g .sign-of .ensures) (h .before .sign .given .1)
+          (j .before .before .if2 .left) (v .next-token4 .ensures) (i .write-tree .ensures .0) (c .bound .ensures),
+      bind-written _ _ _ _ _ e _ _ _ _ _ (a .pre .1 .0) (f .t2 .given .1) (n .next-token3 .ensures) (g .sign-of .ensures) (h .before .sign .given .1) (j .before .before .if2 .left) (v .next-token4 .ensures) (a .args .buf .now) _ _ (a .pre .1 .1) (j .put-name2 .ensures) (i .write-tree .ensures .1),
+    )
 
 pub +write-items+write-tree-spec : {M : Type 1} → statement M
 +write-items+write-tree-spec = close μ-write-items μ-write-tree (λ t. write-items-lts.spec (write-items-calls t)

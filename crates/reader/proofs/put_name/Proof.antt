@@ -39,7 +39,7 @@ returns c =
     let p = c .before .before .before .before .before .before in
     let a = p .before .before .before .before in
     let k : length (take (a .args .n) (drop (a .args .start) (a .args .src .now))) ≡ a .args .n =
-        length-take-le (a .args .n) (drop (a .args .start) (a .args .src .now)) (rw (length-drop (a .args .start) (a .args .src .now)) (omega (arith, a .pre .0))) in
+    length-take-le (a .args .n) (drop (a .args .start) (a .args .src .now)) (rw (length-drop (a .args .start) (a .args .src .now)) (omega (arith, a .pre .0))) in
     headed _ _ _ _ _ _ (ap (λ (j : ℕ). j + 6) k) (a .pre .1) (p .put-head .ensures) (c .before .before .put-bytes .ensures)
 
 pub put-name-spec : {M : Type 1} → statement M
