@@ -1,20 +1,18 @@
 -- A layout is at most 128 times as long as its records, and its column grows by no more than its bytes: why no sum wraps.
 -- Assumes that the table's elements are bytes.
-use mathlib.Core.Path.{_≡_, refl}
+use mathlib.Core.Path.{_≡_}
 use mathlib.Core.Bool.{Bool, true, false}
 use mathlib.Core.List.{List, [], _∷_, _++_}
-use Prim.Native.Nat.{ℕ, _+_, _*_, _-_, _≤_, _<_}
+use Prim.Native.Nat.{ℕ, _+_, _*_, _-_, _≤_}
 use native.Mathlib.Omega.{arith}
 use lib.ListN.{length, length-append, length-replicate}
 use lib.Dec.{lit≤}
 use Rattle.refusals.specs.Numbers.{depthLimit}
 use Rattle.wide.specs.Bytes.{le, wideBytes}
-use Rattle.wide.specs.Decimal.{decimalOf}
 use Rattle.wide.proofs.Numbers.{Bytes, wide-length}
 use Rattle.wide.proofs.Decimals.{decimal-top}
 use Rattle.table.specs.Trees.{Tree, Trees, symbol, integer, binding, list, none, more, count, record-of, records, recordsOf, Good, Goods}
 use Rattle.table.specs.Decoding.{Found, found, refused, treeAt}
-use Rattle.table.proofs.Stands.{stands-length}
 use Rattle.table.proofs.Heads.{length-record}
 use Rattle.table.proofs.Decoded.{Holds, tree-holds}
 use Rattle.printer.specs.Layout.{Wrapping, Wrap, SingleLine, bytes, column, named, wrapped, gap, inner, back, lay, items}
@@ -24,22 +22,22 @@ use Rattle.printer.proofs.Singles.{named-size}
 pub gap-col : (first : Bool) (m : Wrapping) (i c : ℕ) → column (gap first m i c) ≤ c + length (bytes (gap first m i c))
 gap-col true m i c = omega arith
 gap-col false SingleLine i c = omega arith
-gap-col false Wrap i c = omega arith
+gap-col false Wrap i c = simp length-replicate (omega arith)
 
 back-col : (first : Bool) (m : Wrapping) (i c : ℕ) → column (back first m i c) ≤ c + length (bytes (back first m i c))
 back-col true m i c = omega arith
 back-col false SingleLine i c = omega arith
-back-col false Wrap i c = omega arith
+back-col false Wrap i c = simp length-replicate (omega arith)
 
 gap-len : (first : Bool) (m : Wrapping) (i c : ℕ) → i + 1 ≤ 64 → length (bytes (gap first m i c)) ≤ 257
 gap-len true m i c h = lit≤ tt
 gap-len false SingleLine i c h = lit≤ tt
-gap-len false Wrap i c h = rw (length-replicate {0} {A = ℕ} (4 * (i + 1)) 32) (omega arith)
+gap-len false Wrap i c h = simp length-replicate (omega arith)
 
 back-len : (first : Bool) (m : Wrapping) (i c : ℕ) → i ≤ 64 → length (bytes (back first m i c)) ≤ 257
 back-len true m i c h = lit≤ tt
 back-len false SingleLine i c h = lit≤ tt
-back-len false Wrap i c h = rw (length-replicate {0} {A = ℕ} (4 * i) 32) (omega arith)
+back-len false Wrap i c h = simp length-replicate (omega arith)
 
 pub inner-le : (first : Bool) (m : Wrapping) (i : ℕ) → inner first m i ≤ i + 1
 inner-le true m i = omega arith

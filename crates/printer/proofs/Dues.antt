@@ -2,7 +2,7 @@
 use mathlib.Core.Path.{_≡_, refl, ap, sym, subst, _∙_}
 use mathlib.Core.Bool.{Bool, true, false, cond}
 use mathlib.Core.List.{List, _++_, append-assoc, append-nil}
-use Prim.Native.Nat.{ℕ, suc, _+_, _-_, _≤_, _<_}
+use Prim.Native.Nat.{ℕ, _+_, _-_, _≤_, _<_}
 use native.Mathlib.Omega.{arith}
 use lib.ListN.{length, length-append}
 use lib.Dec.{leb}
@@ -16,12 +16,12 @@ use Rattle.table.specs.Decoding.{Found, found, refused, treeAt}
 use Rattle.table.proofs.Stands.{Stands, stands-left, stands-right}
 use Rattle.table.proofs.Heads.{Sized, Sizeds, good-sized, reads, value-read, length-record}
 use Rattle.table.proofs.Decoded.{Holds, tree-holds}
-use Rattle.printer.specs.Layout.{SingleLine, bytes, lay, cost, costs, fits}
-use Rattle.printer.specs.Code.{Right, treeOf, nextOf, around, entryOf, fitOf}
-use Rattle.printer.specs.declared.Entry.{Entry}
-use Rattle.printer.specs.declared.Entry.the-variants.{Is, Bad as NoEntry}
-use Rattle.printer.specs.declared.Fit.{Fit}
-use Rattle.printer.specs.declared.Fit.the-variants.{Yes, No}
+use Rattle.printer.specs.Layout.{SingleLine, bytes, lay, cost, costs}
+use Rattle.printer.specs.Code.{Right, treeOf, around, entryOf, fitOf}
+use Rattle.printer.specs.declared.cost.Entry.{Entry}
+use Rattle.printer.specs.declared.cost.Entry.the-variants.{Is, Bad as NoEntry}
+use Rattle.printer.specs.declared.cost.Fit.{Fit}
+use Rattle.printer.specs.declared.cost.Fit.the-variants.{Yes, No}
 use Rattle.printer.proofs.Singles.{span, spans, single}
 
 -- a tree's first record, the trees that follow it, and its own part of the cost and of the bytes
@@ -188,7 +188,10 @@ module _ (t : List ℕ) (p due left len : ℕ) (answer : Fit) (e : Entry) (h : D
       let u = turn k b size m ek in
       let v : ℕ = costs (u .xs) in
       record {
-        xs = u .xs; sized = u .sized; stands = u .stands; many = u .many;
+        xs = u .xs;
+        sized = u .sized;
+        stands = u .stands;
+        many = u .many;
         rest = u .rest ∙ ap (λ (z : Bool). cond z (Yes (p + size + length (recordsOf (u .xs))) (len + b + spans (u .xs))) No)
             (leb-same (k + v) left (0 + v) (left - k) (λ g. omega arith) (λ g. omega arith));
       }

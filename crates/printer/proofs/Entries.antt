@@ -1,5 +1,5 @@
 -- Bounds of what a record says, on any table. Assumes that the table's elements are bytes.
-use mathlib.Core.Path.{_≡_, refl, ap, sym, subst, _∙_}
+use mathlib.Core.Path.{_≡_, refl, ap, sym, _∙_}
 use mathlib.Core.List.{List}
 use Prim.Native.Nat.{ℕ, zero, suc, _+_, _-_, _^_, _≤_, _<_}
 use native.Mathlib.Omega.{arith}
@@ -17,8 +17,8 @@ use Rattle.table.specs.Records.{recordAt}
 use Rattle.table.proofs.Reading.{RecordAt, record-in, read-in}
 use Rattle.table.proofs.Decoded.{part-lt}
 use Rattle.printer.specs.Code.{around, entryOf}
-use Rattle.printer.specs.declared.Entry.{Entry}
-use Rattle.printer.specs.declared.Entry.the-variants.{Is}
+use Rattle.printer.specs.declared.cost.Entry.{Entry}
+use Rattle.printer.specs.declared.cost.Entry.the-variants.{Is}
 
 pub list-small : (t : List ℕ) (at n : ℕ) (x : Record) → Bytes t → x ≡ recordAt t at → x ≡ ListOf n → n < 2 ^ 32
 list-small t at n x hb e e′ = let h = read-in t at x (ListOf n) e e′ in omega (arith, part-lt t (at + 6) 4 hb (omega arith), h .0)

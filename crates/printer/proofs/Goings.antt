@@ -4,14 +4,13 @@ use mathlib.Core.Bool.{Bool, true, false}
 use mathlib.Core.List.{List, [], _∷_, _++_, append-assoc}
 use Prim.Native.Nat.{ℕ, suc, _+_, _-_, _≤_, _<_}
 use native.Mathlib.Omega.{arith}
-use lib.ListN.{length, length-append}
 use lib.Dec.{eqb}
 use borrow.Author.Tests.{ne-eqb}
 use Rattle.table.specs.Trees.{Tree, Trees, list, more}
 use Rattle.table.specs.Decoding.{Found, itemsAt}
 use Rattle.printer.specs.Layout.{Wrapping, Put, bytes, column, next, wrapped, gap, inner, lay, items}
 use Rattle.printer.specs.Code.{Right, treeOf, treesOf, nextOf, closing}
-use Rattle.printer.proofs.Founds.{Made, First, first, none-left}
+use Rattle.printer.proofs.Founds.{Made, first, none-left}
 
 pub record Going (f : ℕ → Found Tree) (all : Put) (past : ℕ) (m : Wrapping) (w i : ℕ) (o : List ℕ) (k p c : ℕ) (fst : Bool) : Type 0 where
   pub right : Right (itemsAt f k p)
@@ -75,6 +74,8 @@ module _ {f : ℕ → Found Tree} {all : Put} {past : ℕ} {m : Wrapping} {w ind
       let z : n - i ≡ 0 = omega arith in
       let e : i ≡ n = omega arith in
       let g : Going f all past m w ind o 0 p c (eqb n 0) = subst (λ (j : ℕ). Going f all past m w ind o 0 p c (eqb j 0)) e (subst (λ (k : ℕ). Going f all past m w ind o k p c (eqb i 0)) z h) in
-      let k = none-left f p in
-      (sym (k .1) ∙ g .ends, g .text ∙ ap (λ (xs : Trees). o ++ bytes (items xs (eqb n 0) m w ind c)) (k .0),
-      g .col ∙ ap (λ (xs : Trees). column (items xs (eqb n 0) m w ind c)) (k .0))
+      let k = none-left f p in (
+        sym (k .1) ∙ g .ends,
+        g .text ∙ ap (λ (xs : Trees). o ++ bytes (items xs (eqb n 0) m w ind c)) (k .0),
+        g .col ∙ ap (λ (xs : Trees). column (items xs (eqb n 0) m w ind c)) (k .0),
+      )

@@ -1,8 +1,8 @@
 -- What the layout of one tree knows at each record, and after each item of a list. Assumes nothing.
 use mathlib.Core.Path.{_≡_, refl, ap, sym, subst, subst⁻¹, _∙_}
-use mathlib.Core.Bool.{Bool, true, false, cond}
+use mathlib.Core.Bool.{true}
 use mathlib.Core.List.{List, [], _∷_, _++_}
-use Prim.Native.Nat.{ℕ, suc, _+_, _*_, _-_, _≤_, _<_}
+use Prim.Native.Nat.{ℕ, _+_, _-_, _≤_, _<_}
 use native.Mathlib.Omega.{arith}
 use lib.Dec.{eqb}
 use lib.IntN.{ℤ}
@@ -70,10 +70,11 @@ pub bound : (n : List ℕ) (d : ℕ) (m : Wrapping) (w i c k : ℕ) (y z : Found
     → (q len col r : ℕ) (b b′ ys : List ℕ) → Filled (named n) b b′ → (k ≤ length b′ → r ≡ k) → Output z m w i (c + k) q len col (take (length b′ - r) (drop r b′)) ys
     → Output y m w i c q (k + len) col b (putMid r (length b′ - r) b′ ys)
 bound n d m w i c k y z e h q len col r b b′ ys f er g =
-    let s = bind-is n d m w i c k y z e h in
-    ((g .0 .0 ∙ sym (s .2), ap (λ (j : ℕ). k + j) (g .0 .1) ∙ sym (s .3), g .0 .2 ∙ sym (s .1)),
-    λ l. wrote-rest (wrote-whole (named n) b b′ k e (omega (arith, s .3)) f) (bytes (lay (treeOf z) m w i (c + k))) ys len r er (g .0 .1) (omega (arith, s .3, g .0 .1)) (g .1) .holds
-    ∙ ap (λ (o : List ℕ). over o b) (sym (s .0)))
+    let s = bind-is n d m w i c k y z e h in (
+      (g .0 .0 ∙ sym (s .2), ap (λ (j : ℕ). k + j) (g .0 .1) ∙ sym (s .3), g .0 .2 ∙ sym (s .1)),
+      λ l. wrote-rest (wrote-whole (named n) b b′ k e (omega (arith, s .3)) f) (bytes (lay (treeOf z) m w i (c + k))) ys len r er (g .0 .1) (omega (arith, s .3, g .0 .1)) (g .1) .holds
+          ∙ ap (λ (o : List ℕ). over o b) (sym (s .0)),
+    )
 
 -- ---- a list
 
@@ -88,9 +89,11 @@ list-lay xs m w i c = refl
 pub list-is : (t : List ℕ) (at d n : ℕ) (m inside : Wrapping) (w i c : ℕ) (y : Found Tree) → Made d list treesOf y (itemsAt (treeAt t true (d - 1)) n (at + 10)) → inside ≡ wrapped m w c (treeOf y)
     → (lay (treeOf y) m w i c ≡ listed t at d n inside w i c) × (nextOf y ≡ nextOf (itemsAt (treeAt t true (d - 1)) n (at + 10)))
 list-is t at d n m inside w i c y h e =
-    let xs : Trees = treesOf (itemsAt (treeAt t true (d - 1)) n (at + 10)) in
-    (ap (λ (v : Found Tree). lay (treeOf v) m w i c) (h .is) ∙ list-lay xs m w i c
-    ∙ ap (λ (s : Wrapping). next (put (40 ∷ []) c) (items xs true s w i)) (sym (e ∙ ap (λ (v : Found Tree). wrapped m w c (treeOf v)) (h .is))), ap nextOf (h .is))
+    let xs : Trees = treesOf (itemsAt (treeAt t true (d - 1)) n (at + 10)) in (
+      ap (λ (v : Found Tree). lay (treeOf v) m w i c) (h .is) ∙ list-lay xs m w i c
+          ∙ ap (λ (s : Wrapping). next (put (40 ∷ []) c) (items xs true s w i)) (sym (e ∙ ap (λ (v : Found Tree). wrapped m w c (treeOf v)) (h .is))),
+      ap nextOf (h .is),
+    )
 
 -- len bytes o are done, and the items from the i-th on are left; b₀ held the parenthesis, in whatever room e that was
 pub record Laying (t : List ℕ) (at d w ind c₀ n : ℕ) (m : Wrapping) (b₀ b : List ℕ) (len p c i : ℕ) : Type 0 where
@@ -213,8 +216,9 @@ module _ {t : List ℕ} {at d w ind c₀ n : ℕ} {m : Wrapping} {b₀ b : List 
   laying-end l m₀ e made em f cl col r ys ec ek er g =
       let k = list-is t at d n m₀ m w ind c₀ (treeAt t true d at) made em in
       let u = ended l cl ec in
-      subst⁻¹ (λ (v : Put). ((p ≡ nextOf (treeAt t true d at)) × (len + cl ≡ length (bytes v)) × (col ≡ column v)) × Filled (bytes v) e (putMid r (length b - r) b ys)) (k .0)
-      ((u .past ∙ sym (k .1), sym (u .whole), ek ∙ sym (u .last)),
-      λ x.
-      let first : Wrote (40 ∷ []) e b₀ 1 = wrote-whole (40 ∷ []) e b₀ 1 refl (omega (arith, length-append (40 ∷ []) (bytes (items (treesOf (itemsAt (treeAt t true (d - 1)) n (at + 10))) true m w ind (c₀ + 1))))) f in
-      wrote-rest (h .held e x first) (bytes (closing (eqb n 0) m ind c)) ys cl r er ec (omega (arith, u .whole)) g .holds ∙ ap (λ (v : List ℕ). over v e) (sym (u .text)))
+      subst⁻¹ (λ (v : Put). ((p ≡ nextOf (treeAt t true d at)) × (len + cl ≡ length (bytes v)) × (col ≡ column v)) × Filled (bytes v) e (putMid r (length b - r) b ys)) (k .0) (
+        (u .past ∙ sym (k .1), sym (u .whole), ek ∙ sym (u .last)),
+        λ x.
+            let first : Wrote (40 ∷ []) e b₀ 1 = wrote-whole (40 ∷ []) e b₀ 1 refl (omega (arith, length-append (40 ∷ []) (bytes (items (treesOf (itemsAt (treeAt t true (d - 1)) n (at + 10))) true m w ind (c₀ + 1))))) f in
+            wrote-rest (h .held e x first) (bytes (closing (eqb n 0) m ind c)) ys cl r er ec (omega (arith, u .whole)) g .holds ∙ ap (λ (v : List ℕ). over v e) (sym (u .text)),
+      )

@@ -5,7 +5,7 @@ use mathlib.Core.List.{List, [], _∷_, _++_, append-assoc, append-nil}
 use Prim.Native.Nat.{ℕ, zero, suc, _+_, _*_, _-_, _≤_, _<_}
 use native.Mathlib.Omega.{arith}
 use lib.ListN.{length, length-append, take, drop}
-use lib.Dec.{ltb, leb}
+use lib.Dec.{ltb}
 use borrow.Author.Tests.{lt-ltb, le-ltb, ltb-false, le-leb, lt-leb}
 use borrow.Rule.Slice.PartMut.{putMid}
 use Rattle.refusals.specs.Numbers.{tableLimit, depthLimit, tooLong, printRoom}
@@ -13,11 +13,11 @@ use Rattle.refusals.specs.declared.Refusal.{Refusal}
 use Rattle.lists.specs.Over.{over}
 use Rattle.lists.proofs.Writing.{Wrote, wrote-none}
 use Rattle.table.specs.Trees.{Tree, Trees, none, more}
-use Rattle.table.specs.Decoding.{Found, found, refused, andThen, treeAt, treesAt, tableOf, Verdict, good, bad, judged, verdictOf}
+use Rattle.table.specs.Decoding.{Found, found, refused, andThen, treeAt, treesAt, tableOf, good, bad, judged, verdictOf}
 use Rattle.table.specs.declared.Checked.{Checked}
 use Rattle.table.specs.declared.Checked.the-variants.{Good, Refused as Bad}
 use Rattle.printer.specs.Layout.{Wrap, bytes, lay, pageFrom, page}
-use Rattle.printer.specs.Printing.{Print, text, no, printing, printedInto, printOf}
+use Rattle.printer.specs.Printing.{text, no, printing, printedInto, printOf}
 use Rattle.printer.specs.Code.{Right, treeOf, treesOf, nextOf, Filled, between, framed}
 use Rattle.printer.specs.declared.Printed.{Printed}
 use Rattle.printer.specs.declared.Printed.the-variants.{Text, Refused}
@@ -51,11 +51,13 @@ pub node-out : (later : Bool) (x : Tree) (w a l k r₁ r₂ : ℕ) (b b₁ b₂ 
     → (a + l ≤ length b₂ → r₂ ≡ a + l) → k ≡ 1 → Filled (10 ∷ []) (take (length b₂ - r₂) (drop r₂ b₂)) zs
     → (a + l + k ≡ length (framed later x w)) × Filled (framed later x w) b (putMid r₂ (length b₂ - r₂) b₂ zs)
 node-out later x w a l k r₁ r₂ b b₁ b₂ ys zs ea fa e₁ el fl eb e₂ ek fk =
-    let s = framed-size later x w a l k ea el ek in
-    (s, λ v.
-    let w₁ = wrote-rest (wrote-whole (between later) b b₁ a ea (omega arith) fa) (bytes (lay x Wrap w 0 0)) ys l r₁ e₁ el (omega arith) fl in
-    let w₂ = subst⁻¹ (λ (u : List ℕ). Wrote (between later ++ bytes (lay x Wrap w 0 0)) b u (a + l)) eb w₁ in
-    wrote-rest w₂ (10 ∷ []) zs k r₂ e₂ ek (omega arith) fk .holds ∙ ap (λ (o : List ℕ). over o b) (append-assoc (between later) (bytes (lay x Wrap w 0 0)) (10 ∷ [])))
+    let s = framed-size later x w a l k ea el ek in (
+      s,
+      λ v.
+          let w₁ = wrote-rest (wrote-whole (between later) b b₁ a ea (omega arith) fa) (bytes (lay x Wrap w 0 0)) ys l r₁ e₁ el (omega arith) fl in
+          let w₂ = subst⁻¹ (λ (u : List ℕ). Wrote (between later ++ bytes (lay x Wrap w 0 0)) b u (a + l)) eb w₁ in
+          wrote-rest w₂ (10 ∷ []) zs k r₂ e₂ ek (omega arith) fk .holds ∙ ap (λ (o : List ℕ). over o b) (append-assoc (between later) (bytes (lay x Wrap w 0 0)) (10 ∷ [])),
+    )
 
 -- ---- of the page the bytes o are done, and the trees from p are left
 
@@ -108,16 +110,18 @@ step-of t w all o p (suc k) l hp h r e =
     let q : ℕ = nextOf (treeAt t true depthLimit p) in
     let xs : Trees = treesOf (treesAt t true k q) in
     let x : Tree = treeOf (treeAt t true depthLimit p) in
-    let f = found-end t depthLimit p hp (z .right) in
-    (z .right, record {
-      k = k;
-      enough = omega arith;
-      right = z .rest;
-      left =
-          e ∙ ap (λ (ys : Trees). o ++ pageFrom (ltb 0 p) ys w) (z .trees) ∙ ap (λ (s : List ℕ). o ++ s) (more-page (ltb 0 p) x xs w)
-          ∙ join o (between (ltb 0 p)) (bytes (lay x Wrap w 0 0)) (pageFrom true xs w)
-          ∙ ap (λ (b : Bool). (o ++ node t w p) ++ pageFrom b xs w) (sym (lt-ltb 0 q (omega arith)));
-    })
+    let f = found-end t depthLimit p hp (z .right) in (
+      z .right,
+      record {
+        k = k;
+        enough = omega arith;
+        right = z .rest;
+        left =
+            e ∙ ap (λ (ys : Trees). o ++ pageFrom (ltb 0 p) ys w) (z .trees) ∙ ap (λ (s : List ℕ). o ++ s) (more-page (ltb 0 p) x xs w)
+            ∙ join o (between (ltb 0 p)) (bytes (lay x Wrap w 0 0)) (pageFrom true xs w)
+            ∙ ap (λ (b : Bool). (o ++ node t w p) ++ pageFrom b xs w) (sym (lt-ltb 0 q (omega arith)));
+      },
+    )
   where
     join : (a b c d : List ℕ) → a ++ (b ++ (c ++ (10 ∷ d))) ≡ (a ++ (b ++ (c ++ (10 ∷ [])))) ++ d
     join a b c d = simp append-assoc

@@ -2,19 +2,16 @@
 use mathlib.Core.Path.{_≡_, refl, ap, sym, subst⁻¹, _∙_}
 use mathlib.Core.Bool.{Bool, true, false, cond}
 use mathlib.Core.List.{List, [], _∷_, _++_}
-use Prim.Native.Nat.{ℕ, _+_, _-_, _≤_, _<_}
+use Prim.Native.Nat.{ℕ, _+_, _-_, _≤_}
 use native.Mathlib.Omega.{arith}
 use lib.ListN.{length, length-append, take, drop}
-use lib.Dec.{ltb}
-use borrow.Author.Tests.{ltb-true}
 use borrow.Rule.Slice.PartMut.{putMid}
-use Rattle.lists.proofs.Choice.{true-false}
 use Rattle.table.specs.Trees.{Tree, Trees, list}
 use Rattle.table.specs.Decoding.{Found}
 use Rattle.printer.specs.Layout.{Wrapping, Wrap, SingleLine, bytes, column, nl, gap, inner, lay, fits, wrapped}
 use Rattle.printer.specs.Code.{treeOf, nextOf, fitOf, Filled, Laid, closing}
-use Rattle.printer.specs.declared.Fit.{Fit}
-use Rattle.printer.specs.declared.Fit.the-variants.{Yes, No}
+use Rattle.printer.specs.declared.cost.Fit.{Fit}
+use Rattle.printer.specs.declared.cost.Fit.the-variants.{Yes, No}
 use Rattle.printer.proofs.Rooms.{wrote-whole, wrote-rest}
 use Rattle.printer.proofs.Singles.{single}
 
@@ -78,11 +75,12 @@ module _ (y : Found Tree) (m : Wrapping) (w c : ℕ) where
   pub chose-fit : m ≡ Wrap → (f : Fit) (q n : ℕ) → f ≡ fitOf y w c → f ≡ Yes q n
       → ((i : ℕ) (xs : Trees) → treeOf y ≡ list xs → Laid y m w i c q n (c + n)) × (SingleLine ≡ wrapped m w c (treeOf y))
   chose-fit e f q n h h′ =
-      let k = fit-yes y w c q n (sym h′ ∙ h) in
-      (λ i xs el.
-      let one : lay (treeOf y) m w i c ≡ lay (treeOf y) SingleLine w i c =
-      ap (λ (v : Wrapping). lay (treeOf y) v w i c) e ∙ subst⁻¹ (λ (x : Tree). fits w c x ≡ true → lay x Wrap w i c ≡ lay x SingleLine w i c) el (list-fits xs w i c) (k .0) in
-      let a = single (treeOf y) w i c in
-      let z = single (treeOf y) w 0 c in
-      rw one (k .1, omega (arith, a .0, z .0, k .2), omega (arith, a .1, z .0, k .2)),
-      rw (e, k .0) refl)
+      let k = fit-yes y w c q n (sym h′ ∙ h) in (
+        λ i xs el.
+            let one : lay (treeOf y) m w i c ≡ lay (treeOf y) SingleLine w i c =
+            ap (λ (v : Wrapping). lay (treeOf y) v w i c) e ∙ subst⁻¹ (λ (x : Tree). fits w c x ≡ true → lay x Wrap w i c ≡ lay x SingleLine w i c) el (list-fits xs w i c) (k .0) in
+            let a = single (treeOf y) w i c in
+            let z = single (treeOf y) w 0 c in
+            rw one (k .1, omega (arith, a .0, z .0, k .2), omega (arith, a .1, z .0, k .2)),
+        rw (e, k .0) refl,
+      )

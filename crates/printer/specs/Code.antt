@@ -1,5 +1,5 @@
 -- What the code's own functions answer: a checked table's trees, the walk of `fits`, and a room that may be too short.
-use Prim.Native.Nat.{ℕ, zero, suc, _+_, _-_, _*_, _≤_, _<_}
+use Prim.Native.Nat.{ℕ, zero, suc, _+_, _-_, _≤_, _<_}
 use mathlib.Core.Path.{_≡_}
 use mathlib.Core.Bool.{Bool, true, false, cond}
 use mathlib.Core.List.{List, [], _∷_, _++_}
@@ -13,10 +13,10 @@ use Rattle.table.specs.declared.Record.{Record}
 use Rattle.table.specs.declared.Record.the-variants.{Symbol, Integer, Binding, List as ListOf, Bad}
 use Rattle.table.specs.Decoding.{Found, found, refused, treeAt}
 use Rattle.printer.specs.Layout.{Put, Wrapping, Wrap, SingleLine, bytes, column, next, back, put, lay, fits, wrapped}
-use Rattle.printer.specs.declared.Entry.{Entry}
-use Rattle.printer.specs.declared.Entry.the-variants.{Is, Bad as NoEntry}
-use Rattle.printer.specs.declared.Fit.{Fit}
-use Rattle.printer.specs.declared.Fit.the-variants.{Yes, No}
+use Rattle.printer.specs.declared.cost.Entry.{Entry}
+use Rattle.printer.specs.declared.cost.Entry.the-variants.{Is, Bad as NoEntry}
+use Rattle.printer.specs.declared.cost.Fit.{Fit}
+use Rattle.printer.specs.declared.cost.Fit.the-variants.{Yes, No}
 use Rattle.printer.specs.declared.Choice.{Choice}
 
 abbrev pub Right : {A : Type 0} → Found A → Type 0

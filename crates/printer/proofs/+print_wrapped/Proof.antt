@@ -1,8 +1,7 @@
 -- `printer::print_wrapped`: the depth falls at each call; the laws of each record and of each item are cited.
-use mathlib.Core.Path.{_≡_, refl, ap, sym, _∙_}
+use mathlib.Core.Path.{refl, ap}
 use native.Mathlib.Omega.{arith}
 use borrow.Author.Needs.{needs}
-use lib.ListN.{length, take, drop}
 use Rattle.wide.specs.Value.{value}
 use Rattle.wide.proofs.Decimals.{decimal-top}
 use Rattle.table.proofs.Stands.{part-size}
@@ -18,11 +17,11 @@ use Rattle.printer.proofs.print_wrapped.Reads as print-wrapped
 use Rattle.printer.proofs.print_wrapped.Kinds as print-wrapped-kinds
 use Rattle.printer.proofs.+print_wrapped.Lts-print_wrapped as print-wrapped-lts
 use Rattle.printer.proofs.choose.Reads as choose-reads
-use Rattle.printer.proofs.least.Reads as least-reads
-use Rattle.printer.proofs.put.Reads as put-reads
-use Rattle.printer.proofs.put_byte.Reads as put-byte-reads
-use Rattle.printer.proofs.put_close.Reads as put-close-reads
-use Rattle.printer.proofs.put_gap.Reads as put-gap-reads
+use Rattle.printer.proofs.room.least.Reads as least-reads
+use Rattle.printer.proofs.room.put.Reads as put-reads
+use Rattle.printer.proofs.room.put_byte.Reads as put-byte-reads
+use Rattle.printer.proofs.gaps.put_close.Reads as put-close-reads
+use Rattle.printer.proofs.gaps.put_gap.Reads as put-gap-reads
 use Rattle.printer.proofs.put_name.Reads as put-name-reads
 use Rattle.table.proofs.record_at.Reads as record-at-reads
 use Rattle.wide.proofs.put_decimal.Reads as put-decimal-reads
@@ -39,11 +38,7 @@ print-wrapped-at t =
 
 abbrev print-wrapped-below : ℕ → In 2 print-wrapped-kinds.ps
 print-wrapped-below t =
-    and
-    2
-    print-wrapped-kinds.ps
-    (falls 2 print-wrapped-kinds.ps _<_ μ-print-wrapped t)
-    print-wrapped.Pre
+    and 2 print-wrapped-kinds.ps (falls 2 print-wrapped-kinds.ps _<_ μ-print-wrapped t) print-wrapped.Pre
 
 -- the contracts of the functions that it calls
 abbrev calls : ℕ → print-wrapped-lts.Claims
@@ -376,74 +371,13 @@ returns-6 t c =
     (c .before .before .before .before .before .before .before .before .before .before .put-byte .ensures .1) _ _ _ _ (e .0) (e .1) (c .before .before .before .before .before .least4 .ensures .1) (e .2)
 
 pub +print-wrapped-spec : {M : Type 1} → statement M
-+print-wrapped-spec = close μ-print-wrapped λ t. print-wrapped-lts.spec (calls t)
-    (print-wrapped-at t)
-    print-wrapped.Post
-    Inv-loop
-    μ-loop
-    (record-at-requires t)
-    (enum-told t)
-    (enum-known-node t)
-    (add-start t)
-    (add-end t)
-    (sub-put t)
-    (part-put-start t)
-    (part-put-end t)
-    (put-requires t)
-    (add-t35 t)
-    (enum-told-2 t)
-    (add-wide-at t)
-    (wide-at-requires t)
-    (put-decimal-requires t)
-    (add-t41 t)
-    (add-t44 t)
-    (enum-known-node-2 t)
-    (put-name-requires t)
-    (least-requires t)
-    (add-print-wrapped t)
-    (sub-print-wrapped t)
-    (add-print-wrapped-2 t)
-    (sub-print-wrapped-2 t)
-    (part-print-wrapped-start t)
-    (part-print-wrapped-end t)
-    (print-wrapped-requires t)
-    (add-t47 t)
-    (enum-known-node-3 t)
-    (choose-requires t)
-    (add-t56 t)
-    (returns t)
-    (put-byte-requires t)
-    (add-p t)
-    (add-c t)
-    (loop-holds t)
-    (least-requires-2 t)
-    (sub-put-gap t)
-    (part-put-gap-start t)
-    (part-put-gap-end t)
-    (put-gap-requires t)
-    (add-k t)
-    (least-requires-3 t)
-    (sub-print-wrapped-3 t)
-    (sub-print-wrapped-4 t)
-    (part-print-wrapped-start-2 t)
-    (part-print-wrapped-end-2 t)
-    (print-wrapped-requires-2 t)
-    (add-w t)
-    (add-i t)
-    (loop-less t)
-    (loop-again t)
-    (least-requires-4 t)
-    (sub-put-close t)
-    (part-put-close-start t)
-    (part-put-close-end t)
-    (put-close-requires t)
-    (add-t54 t)
-    (returns-2 t)
-    (same-length t)
-    (returns-3 t)
-    (same-length-2 t)
-    (returns-4 t)
-    (same-length-3 t)
-    (returns-5 t)
-    (same-length-4 t)
-    (returns-6 t)
++print-wrapped-spec = close μ-print-wrapped λ t. print-wrapped-lts.spec (calls t) (print-wrapped-at t) print-wrapped.Post Inv-loop μ-loop
+    (record-at-requires t) (enum-told t) (enum-known-node t) (add-start t) (add-end t) (sub-put t) (part-put-start t) (part-put-end t) (put-requires t)
+    (add-t35 t) (enum-told-2 t) (add-wide-at t) (wide-at-requires t) (put-decimal-requires t) (add-t41 t) (add-t44 t) (enum-known-node-2 t)
+    (put-name-requires t) (least-requires t) (add-print-wrapped t) (sub-print-wrapped t) (add-print-wrapped-2 t) (sub-print-wrapped-2 t)
+    (part-print-wrapped-start t) (part-print-wrapped-end t) (print-wrapped-requires t) (add-t47 t) (enum-known-node-3 t) (choose-requires t) (add-t56 t)
+    (returns t) (put-byte-requires t) (add-p t) (add-c t) (loop-holds t) (least-requires-2 t) (sub-put-gap t) (part-put-gap-start t) (part-put-gap-end t)
+    (put-gap-requires t) (add-k t) (least-requires-3 t) (sub-print-wrapped-3 t) (sub-print-wrapped-4 t) (part-print-wrapped-start-2 t)
+    (part-print-wrapped-end-2 t) (print-wrapped-requires-2 t) (add-w t) (add-i t) (loop-less t) (loop-again t) (least-requires-4 t) (sub-put-close t)
+    (part-put-close-start t) (part-put-close-end t) (put-close-requires t) (add-t54 t) (returns-2 t) (same-length t) (returns-3 t) (same-length-2 t)
+    (returns-4 t) (same-length-3 t) (returns-5 t) (same-length-4 t) (returns-6 t)

@@ -1,5 +1,5 @@
 -- `printer::choose`: one line for each way to a mode.
-use mathlib.Core.Path.{_≡_, sym}
+use mathlib.Core.Path.{sym}
 use mathlib.Core.Bool.{true}
 use borrow.Author.Needs.{needs}
 use borrow.Author.Tests.{ltb-true}

@@ -1,6 +1,6 @@
 -- `printer::print`: checked, measured in a room of no bytes, and then written.
 use native.Mathlib.Omega.{arith}
-use mathlib.Core.Path.{_≡_, refl, ap, _∙_}
+use mathlib.Core.Path.{ap, _∙_}
 use mathlib.Core.Bool.{true}
 use lib.ListN.{length}
 use Rattle.table.specs.Decoding.{tableOf}
@@ -8,10 +8,6 @@ use Rattle.printer.proofs.Pages.{none-lent, print-right, print-no, prin
 use borrow.Author.Needs.{needs}
 use Rattle.printer.proofs.print.Statement.{statement}
 use Rattle.printer.proofs.print.Tie as tie
-use Rattle.printer.proofs.print.Reads as reads
-use Rattle.printer.proofs.print.Lts as lts
-use Rattle.printer.proofs.print_trees.Reads as print-trees-reads
-use Rattle.table.proofs.check.Reads as check-reads
 
 check-requires : tie.Need-check-requires
 check-requires c κs = search needs
@@ -59,16 +55,5 @@ returns-3 c =
 pub print-spec : {M : Type 1} → statement M
 print-spec =
     tie.close
-    (tie.spec
-    check-requires
-    enum-known-checked
-    enum-told
-    slice-relend-prefix-print-trees
-    slice-aggregate-print-trees
-    print-trees-requires
-    same-length
-    returns
-    print-trees-requires-2
-    returns-2
-    same-length-2
-    returns-3)
+    (tie.spec check-requires enum-known-checked enum-told slice-relend-prefix-print-trees slice-aggregate-print-trees print-trees-requires same-length
+    returns print-trees-requires-2 returns-2 same-length-2 returns-3)

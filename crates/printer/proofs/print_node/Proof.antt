@@ -1,7 +1,6 @@
 -- `printer::print_node`: three parts, each in the rest of the room.
 use native.Mathlib.Omega.{arith}
-use mathlib.Core.Path.{_≡_, refl}
-use Prim.Native.Nat.{ℕ, _+_, _*_, _-_}
+use mathlib.Core.Path.{refl}
 use lib.Dec.{ltb, lit≤}
 use mathlib.Core.Bool.{true}
 use Rattle.table.specs.Decoding.{treeAt}
@@ -13,12 +12,6 @@ use Rattle.printer.proofs.Pages.{between-le, node-out}
 use borrow.Author.Needs.{needs}
 use Rattle.printer.proofs.print_node.Statement.{statement}
 use Rattle.printer.proofs.print_node.Tie as tie
-use Rattle.printer.proofs.print_node.Reads as reads
-use Rattle.printer.proofs.print_node.Lts as lts
-use Rattle.printer.proofs.least.Reads as least-reads
-use Rattle.printer.proofs.print_wrapped.Reads as print-wrapped-reads
-use Rattle.printer.proofs.put_between.Reads as put-between-reads
-use Rattle.printer.proofs.put_byte.Reads as put-byte-reads
 
 put-between-requires : tie.Need-put-between-requires
 put-between-requires c κs = search needs
@@ -86,19 +79,5 @@ returns c =
 pub print-node-spec : {M : Type 1} → statement M
 print-node-spec =
     tie.close
-    (tie.spec
-    put-between-requires
-    least-requires
-    sub-print-wrapped
-    part-print-wrapped-start
-    part-print-wrapped-end
-    print-wrapped-requires
-    add-end
-    least-requires-2
-    sub-put-byte
-    part-put-byte-start
-    part-put-byte-end
-    put-byte-requires
-    add-t14
-    same-length
-    returns)
+    (tie.spec put-between-requires least-requires sub-print-wrapped part-print-wrapped-start part-print-wrapped-end print-wrapped-requires add-end
+    least-requires-2 sub-put-byte part-put-byte-start part-put-byte-end put-byte-requires add-t14 same-length returns)

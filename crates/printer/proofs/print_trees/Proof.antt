@@ -1,8 +1,7 @@
 -- `printer::print_trees`: what is done of the page, and the trees that are left.
 use native.Mathlib.Omega.{arith}
-use mathlib.Core.Path.{_≡_, refl}
 use mathlib.Core.Bool.{true}
-use Prim.Native.Nat.{ℕ, _+_, _*_, _-_}
+use Prim.Native.Nat.{_-_}
 use borrow.Author.Needs.{needs}
 use lib.ListN.{length}
 use lib.Dec.{ltb}
@@ -14,10 +13,6 @@ use Rattle.printer.proofs.Founds.{found-end}
 use Rattle.printer.proofs.Pages.{Pages, pages-begin, pages-tree, pages-step, pages-end, framed-le}
 use Rattle.printer.proofs.print_trees.Statement.{statement}
 use Rattle.printer.proofs.print_trees.Tie as tie
-use Rattle.printer.proofs.print_trees.Reads as reads
-use Rattle.printer.proofs.print_trees.Lts as lts
-use Rattle.printer.proofs.least.Reads as least-reads
-use Rattle.printer.proofs.print_node.Reads as print-node-reads
 
 abbrev Inv-loop : tie.InvT-loop
 Inv-loop t width out₀ p₀ w₀ out p w = Pages t width out₀ out w p
@@ -85,17 +80,5 @@ returns c = pages-end (c .before .loop .inv) (c .loop-test .left)
 pub print-trees-spec : {M : Type 1} → statement M
 print-trees-spec =
     tie.close
-    (tie.spec
-    Inv-loop
-    μ-loop
-    loop-holds
-    least-requires
-    sub-print-node
-    part-print-node-start
-    part-print-node-end
-    print-node-requires
-    add-w
-    loop-less
-    loop-again
-    same-length
-    returns)
+    (tie.spec Inv-loop μ-loop loop-holds least-requires sub-print-node part-print-node-start part-print-node-end print-node-requires add-w loop-less
+    loop-again same-length returns)

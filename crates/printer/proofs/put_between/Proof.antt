@@ -3,9 +3,6 @@ use Rattle.printer.proofs.Pages.{between-some, between-none}
 use borrow.Author.Needs.{needs}
 use Rattle.printer.proofs.put_between.Statement.{statement}
 use Rattle.printer.proofs.put_between.Tie as tie
-use Rattle.printer.proofs.put_between.Reads as reads
-use Rattle.printer.proofs.put_between.Lts as lts
-use Rattle.printer.proofs.put_byte.Reads as put-byte-reads
 
 put-byte-requires : tie.Need-put-byte-requires
 put-byte-requires c κs = search needs

@@ -89,22 +89,5 @@ returns-2 c =
 pub put-name-spec : {M : Type 1} → statement M
 put-name-spec =
     tie.close
-    (tie.spec
-    add-start
-    add-end
-    sub-n
-    add-if1
-    add-result
-    returns
-    sub-copy
-    part-copy-start
-    part-copy-end
-    copy-requires
-    slice-write-out
-    add-out
-    slice-write-out-2
-    add-out-2
-    slice-write-out-3
-    add-result-2
-    same-length
-    returns-2)
+    (tie.spec add-start add-end sub-n add-if1 add-result returns sub-copy part-copy-start part-copy-end copy-requires slice-write-out add-out
+    slice-write-out-2 add-out-2 slice-write-out-3 add-result-2 same-length returns-2)

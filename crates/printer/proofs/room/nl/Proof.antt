@@ -1,5 +1,5 @@
--- `printer::nl`: a run of spaces, of which the first then becomes the line break.
-use mathlib.Core.Path.{_≡_, refl, ap, sym, _∙_}
+-- `printer::room::nl`: a run of spaces, of which the first then becomes the line break.
+use mathlib.Core.Path.{_≡_, ap, _∙_}
 use mathlib.Core.List.{List}
 use Prim.Native.Nat.{ℕ, _+_, _*_, _≤_, _-_}
 use native.Mathlib.Omega.{arith}
@@ -8,8 +8,8 @@ use lib.ListN.{length, length-set, replicate, set}
 use Rattle.lists.specs.Over.{over}
 use Rattle.lists.proofs.Writing.{over-more}
 use Rattle.printer.proofs.Rooms.{broken, broken-size}
-use Rattle.printer.proofs.nl.Statement.{statement}
-use Rattle.printer.proofs.nl.Tie as tie
+use Rattle.printer.proofs.room.nl.Statement.{statement}
+use Rattle.printer.proofs.room.nl.Tie as tie
 
 abbrev Inv-loop : tie.InvT-loop
 Inv-loop indent out₀ n i₀ out i = (i ≤ n) × (length out ≡ length out₀) × (out ≡ over (replicate i 32) out₀)

@@ -1,5 +1,5 @@
--- `printer::entry_at`: one line for each kind of record.
-use mathlib.Core.Path.{_≡_, refl, ap, sym, _∙_}
+-- `printer::cost::entry_at`: one line for each kind of record.
+use mathlib.Core.Path.{refl, ap, sym, _∙_}
 use Prim.Native.Nat.{ℕ, _+_}
 use native.Mathlib.Omega.{arith}
 use borrow.Author.Needs.{needs}
@@ -8,10 +8,10 @@ use lib.ListN.{length}
 use Rattle.wide.specs.Decimal.{decimalOf}
 use Rattle.table.proofs.Reading.{symbol-in, binding-in, integer-in}
 use Rattle.printer.specs.Code.{around}
-use Rattle.printer.specs.declared.Entry.the-variants.{Is}
+use Rattle.printer.specs.declared.cost.Entry.the-variants.{Is}
 use Rattle.printer.proofs.Entries.{list-small, around-more, integer-value, entry-is}
-use Rattle.printer.proofs.entry_at.Statement.{statement}
-use Rattle.printer.proofs.entry_at.Tie as tie
+use Rattle.printer.proofs.cost.entry_at.Statement.{statement}
+use Rattle.printer.proofs.cost.entry_at.Tie as tie
 
 record-at-requires : tie.Need-record-at-requires
 record-at-requires c κs = search needs
@@ -80,22 +80,5 @@ returns-6 c =
 pub entry-at-spec : {M : Type 1} → statement M
 entry-at-spec =
     tie.close
-    (tie.spec
-    record-at-requires
-    enum-told
-    enum-known-node
-    sub-n
-    enum-told-2
-    add-wide-at
-    wide-at-requires
-    decimal-len-requires
-    enum-known-node-2
-    sub-n-2
-    enum-known-node-3
-    returns
-    add-k
-    returns-2
-    returns-3
-    returns-4
-    returns-5
-    returns-6)
+    (tie.spec record-at-requires enum-told enum-known-node sub-n enum-told-2 add-wide-at wide-at-requires decimal-len-requires enum-known-node-2 sub-n-2
+    enum-known-node-3 returns add-k returns-2 returns-3 returns-4 returns-5 returns-6)

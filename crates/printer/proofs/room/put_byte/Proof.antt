@@ -1,10 +1,10 @@
--- `printer::put_byte`: the byte, where there is room for it.
+-- `printer::room::put_byte`: the byte, where there is room for it.
 use native.Mathlib.Omega.{arith}
 use borrow.Author.Needs.{needs}
 use mathlib.Core.Path.{refl}
 use Rattle.printer.proofs.Rooms.{one-byte}
-use Rattle.printer.proofs.put_byte.Statement.{statement}
-use Rattle.printer.proofs.put_byte.Tie as tie
+use Rattle.printer.proofs.room.put_byte.Statement.{statement}
+use Rattle.printer.proofs.room.put_byte.Tie as tie
 
 returns : tie.Need-returns
 returns c = (refl, λ l. absurd (omega arith))

@@ -1,12 +1,8 @@
--- `printer::put_gap`: one line for each kind of gap.
+-- `printer::gaps::put_gap`: one line for each kind of gap.
 use Rattle.printer.proofs.Spaces.{gap-none, gap-line, gap-break}
 use borrow.Author.Needs.{needs}
-use Rattle.printer.proofs.put_gap.Statement.{statement}
-use Rattle.printer.proofs.put_gap.Tie as tie
-use Rattle.printer.proofs.put_gap.Reads as reads
-use Rattle.printer.proofs.put_gap.Lts as lts
-use Rattle.printer.proofs.nl.Reads as nl-reads
-use Rattle.printer.proofs.put_byte.Reads as put-byte-reads
+use Rattle.printer.proofs.gaps.put_gap.Statement.{statement}
+use Rattle.printer.proofs.gaps.put_gap.Tie as tie
 
 returns : tie.Need-returns
 returns c = gap-none _ _ _ _ (c .before .before .args .out .now) (c .if1 .taken)
@@ -53,16 +49,4 @@ returns-3 c =
 pub put-gap-spec : {M : Type 1} → statement M
 put-gap-spec =
     tie.close
-    (tie.spec
-    returns
-    enum-told
-    put-byte-requires
-    add-t12
-    enum-told-2
-    add-nl
-    nl-requires
-    add-t13
-    same-length
-    returns-2
-    same-length-2
-    returns-3)
+    (tie.spec returns enum-told put-byte-requires add-t12 enum-told-2 add-nl nl-requires add-t13 same-length returns-2 same-length-2 returns-3)

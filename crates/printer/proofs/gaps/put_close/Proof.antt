@@ -1,16 +1,11 @@
--- `printer::put_close`: one line for each kind of end.
+-- `printer::gaps::put_close`: one line for each kind of end.
 use Rattle.printer.proofs.Spaces.{close-none, close-line, close-break}
 use Rattle.printer.proofs.Rooms.{broken-size}
 use Prim.Native.Nat.{_*_}
 use native.Mathlib.Omega.{arith}
 use borrow.Author.Needs.{needs}
-use Rattle.printer.proofs.put_close.Statement.{statement}
-use Rattle.printer.proofs.put_close.Tie as tie
-use Rattle.printer.proofs.put_close.Reads as reads
-use Rattle.printer.proofs.put_close.Lts as lts
-use Rattle.printer.proofs.least.Reads as least-reads
-use Rattle.printer.proofs.nl.Reads as nl-reads
-use Rattle.printer.proofs.put_byte.Reads as put-byte-reads
+use Rattle.printer.proofs.gaps.put_close.Statement.{statement}
+use Rattle.printer.proofs.gaps.put_close.Tie as tie
 
 put-byte-requires : tie.Need-put-byte-requires
 put-byte-requires c κs = search needs
@@ -83,23 +78,5 @@ returns-3 c =
 pub put-close-spec : {M : Type 1} → statement M
 put-close-spec =
     tie.close
-    (tie.spec
-    put-byte-requires
-    add-t13
-    same-length
-    returns
-    enum-told
-    put-byte-requires-2
-    add-t18
-    enum-told-2
-    nl-requires
-    least-requires
-    sub-put-byte
-    part-put-byte-start
-    part-put-byte-end
-    put-byte-requires-3
-    add-t21
-    same-length-2
-    returns-2
-    same-length-3
-    returns-3)
+    (tie.spec put-byte-requires add-t13 same-length returns enum-told put-byte-requires-2 add-t18 enum-told-2 nl-requires least-requires sub-put-byte
+    part-put-byte-start part-put-byte-end put-byte-requires-3 add-t21 same-length-2 returns-2 same-length-3 returns-3)

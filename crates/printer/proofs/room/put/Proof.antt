@@ -1,10 +1,10 @@
--- `printer::put`: a copy, where there is room for it.
+-- `printer::room::put`: a copy, where there is room for it.
 use native.Mathlib.Omega.{arith}
 use borrow.Author.Needs.{needs}
 use mathlib.Core.Path.{refl}
 use Rattle.printer.proofs.Rooms.{copied}
-use Rattle.printer.proofs.put.Statement.{statement}
-use Rattle.printer.proofs.put.Tie as tie
+use Rattle.printer.proofs.room.put.Statement.{statement}
+use Rattle.printer.proofs.room.put.Tie as tie
 
 returns : tie.Need-returns
 returns c = (refl, λ l. absurd (omega arith))
