@@ -31,6 +31,7 @@ mod cases;
 mod codegen;
 mod compare;
 mod crate_side;
+mod cuts;
 mod document;
 mod drive;
 mod frame;

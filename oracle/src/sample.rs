@@ -1,8 +1,9 @@
-//! Writes a fixed sample: frames to one file and the answers they must get to another.
+//! Writes a fixed sample: frames to one file and the answers they must get to another. The cut sources come last.
 
 use crate::answer::answer;
 use crate::cases::Cases;
 use crate::crate_side::CrateSide;
+use crate::cuts;
 use crate::options;
 
 pub fn run(words: &[String]) -> Result<(), String> {
@@ -19,11 +20,16 @@ pub fn run(words: &[String]) -> Result<(), String> {
             answer(&CrateSide, &frame, &mut expected);
         }
     }
+    let cut: Vec<_> = cuts::frames().into_iter().filter(|frame| options.ops.contains(&frame.op)).collect();
+    for frame in &cut {
+        frame.put(&mut frames);
+        answer(&CrateSide, frame, &mut expected);
+    }
     let written =
         |file: &str, bytes: &[u8]| std::fs::write(file, bytes).map_err(|error| format!("{file}: {error}"));
     written(frames_file, &frames)?;
     written(expected_file, &expected)?;
-    let total = options.cases * options.ops.len() as u64;
+    let total = options.cases * options.ops.len() as u64 + cut.len() as u64;
     println!("wrote {total} cases: {} bytes of frames, {} bytes of answers", frames.len(), expected.len());
     Ok(())
 }
