@@ -69,7 +69,15 @@ pub fn is_sym_first_char(b: u8) -> bool
 pub fn is_sym_other_char(b: u8) -> bool
     ensures { λ r. ⌜ r ≡ symbolOther (classOf b) ⌝ }
 {
-    !((b == 40) | (b == 41) | (b == 59) | (b == 64) | (b == 32) | (b == 9) | (b == 10) | (b == 13) | (b == 12))
+    !((b == 40)
+        | (b == 41)
+        | (b == 59)
+        | (b == 64)
+        | (b == 32)
+        | (b == 9)
+        | (b == 10)
+        | (b == 13)
+        | (b == 12))
 }
 
 // The digit's value, or 16.

@@ -22,7 +22,7 @@ use Rattle.lexer.specs.Lexing.{Between, InLine, InBlock, skip, symbolEnd
 pub unsigned-placed : (s : List ℕ) (minus : Bool) (st at : ℕ)
     → unsignedIn minus st (drop at s) at
     ≡ cond (eqb (radixOf (getD s at 0) (getD s (at + 1) 0)) 10) (digitsIn minus st 10 (drop at s) at)
-      (digitsIn minus st (radixOf (getD s at 0) (getD s (at + 1) 0)) (drop (at + 2) s) (at + 2))
+    (digitsIn minus st (radixOf (getD s at 0) (getD s (at + 1) 0)) (drop (at + 2) s) (at + 2))
 unfolding unsignedIn
 unsigned-placed s minus st at =
     let two : suc (suc at) ≡ at + 2 = omega arith in

@@ -4,4 +4,3 @@ pub mod Lexing
 pub mod Streams
 pub mod Said
 pub mod Code
-pub mod Cases

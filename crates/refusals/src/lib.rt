@@ -8,26 +8,46 @@ pub struct Refusal {
 
 // The limits of a source and of a table in bytes, and of the lists and bindings open at once.
 pub const SOURCE_LIMIT: usize = 1048576;
+
 pub const TABLE_LIMIT: usize = 16777216;
+
 pub const DEPTH_LIMIT: usize = 64;
 
 // The rows of the table 'Numbers given instead of an answer', in its order.
 pub const TOO_LONG: u8 = 1;
+
 pub const PAST_SOURCE: u8 = 2;
+
 pub const FORM_FEED: u8 = 3;
+
 pub const OPEN_COMMENT: u8 = 4;
+
 pub const NO_DIGITS: u8 = 5;
+
 pub const FOREIGN_DIGIT: u8 = 6;
+
 pub const TOO_LARGE: u8 = 7;
+
 pub const MINUS_LOWEST: u8 = 8;
+
 pub const NO_LIST_OPEN: u8 = 9;
+
 pub const LIST_OPEN: u8 = 10;
+
 pub const NO_SYMBOL: u8 = 11;
+
 pub const NO_TREE: u8 = 12;
+
 pub const TOO_DEEP: u8 = 13;
+
 pub const TABLE_ROOM: u8 = 14;
+
 pub const BAD_RECORD: u8 = 15;
+
 pub const BAD_SYMBOL: u8 = 16;
+
 pub const LOWEST: u8 = 17;
+
 pub const PRINT_ROOM: u8 = 18;
+
 pub const FED_AFTER_CLOSE: u8 = 19;

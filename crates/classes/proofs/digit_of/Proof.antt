@@ -1,6 +1,5 @@
 -- `classes::digit_of`: a range of bytes a return.
 use native.Mathlib.Omega.{arith}
-
 use Rattle.lists.proofs.Choice.{at-least}
 use Rattle.classes.specs.Classes.{digitOf}
 use Rattle.classes.proofs.digit_of.Statement.{statement}

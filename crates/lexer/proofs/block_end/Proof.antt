@@ -108,9 +108,12 @@ loop-less-2 c = let a = c .before .before .before in omega (arith, two-close (S 
 
 loop-again-2 : tie.Need-loop-again-2 Inv-loop μ-loop
 loop-again-2 c =
-    let a = c .before .before .before in
-    (omega arith, omega arith, omega arith,
-    sym (block-close (S a) (I a) (D a) (P a) (told a ∙ c .before .enum-told2 .given .1) ∙ rw (left-one (D a) (P a) (omega arith)) refl) ∙ kept a)
+    let a = c .before .before .before in (
+      omega arith,
+      omega arith,
+      omega arith,
+      sym (block-close (S a) (I a) (D a) (P a) (told a ∙ c .before .enum-told2 .given .1) ∙ rw (left-one (D a) (P a) (omega arith)) refl) ∙ kept a,
+    )
 
 enum-told-3 : tie.Need-enum-told-3 Inv-loop μ-loop
 enum-told-3 c = search needs

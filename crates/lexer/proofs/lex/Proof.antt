@@ -102,7 +102,7 @@ loop-less-3 : tie.Need-loop-less-3 Inv-loop μ-loop
 loop-less-3 c = omega (arith, c .line-end .ensures .0)
 
 loop-again-3 : tie.Need-loop-again-3 Inv-loop μ-loop
-loop-again-3 c = 
+loop-again-3 c =
     let a = c .before .before .before in
     c .line-end .ensures .1 ∙ sym (lex-semicolon (S a) (I a) (lt a) (told a ∙ c .before .enum-told3 .given .1)) ∙ kept a
 
@@ -125,7 +125,7 @@ loop-less-4 : tie.Need-loop-less-4 Inv-loop μ-loop
 loop-less-4 c = let b = c .before .before .before in omega (arith, subst (λ (r : Block). Beyond r (I (b .before .before .before .before .before))) (c .before .j .given .1) (b .block-end .ensures .0))
 
 loop-again-4 : tie.Need-loop-again-4 Inv-loop μ-loop
-loop-again-4 c = 
+loop-again-4 c =
     let b = c .before .before .before in
     let a = b .before .before .before .before .before in
     subst (λ (r : Block). blockLeft r (S a) (I a) ≡ lexIn 0 (InBlock 1 (I a)) (drop (I a + 2) (S a)) (I a + 2)) (c .before .j .given .1) (b .block-end .ensures .1) ∙ sym (commented b) ∙ kept a
@@ -137,13 +137,13 @@ refused-requires : tie.Need-refused-requires Inv-loop μ-loop
 refused-requires c κs = tt
 
 returns : tie.Need-returns Inv-loop μ-loop
-returns c = 
+returns c =
     let b = c .before .before .before in
     let a = b .before .before .before .before .before in
     rw (c .refused .ensures) (subst (λ (r : Block). blockLeft r (S a) (I a) ≡ lexIn 0 (InBlock 1 (I a)) (drop (I a + 2) (S a)) (I a + 2)) (c .before .enum-told5 .given .1) (b .block-end .ensures .1) ∙ sym (commented b) ∙ kept a)
 
 returns-2 : tie.Need-returns-2 Inv-loop μ-loop
-returns-2 c = 
+returns-2 c =
     let a = c .before .before .before .before in
     sym (lex-lparen (S a) (I a) (lt a) (told a ∙ c .before .before .enum-told4 .given .1) (sym (is-semicolon (getD (S a) (I a + 1) 0) (fits a)) ∙ ne-eqb _ _ (λ e. c .if1 .left (c .before .byte-at .ensures ∙ e)))) ∙ kept a
 

@@ -26,7 +26,7 @@ concluded-requires : tie.Need-concluded-requires
 concluded-requires c κs = search needs
 
 returns : tie.Need-returns
-returns c = 
+returns c =
     let a = c .before .before .before .before .before .before .before .args in
     let r = c .before .before .before in
     c .concluded .ensures
@@ -43,7 +43,7 @@ concluded-requires-2 : tie.Need-concluded-requires-2
 concluded-requires-2 c κs = search needs
 
 returns-2 : tie.Need-returns-2
-returns-2 c = 
+returns-2 c =
     let a = c .before .before .before .before .before .before .before .args in
     let r = c .before .before .before in
     c .concluded2 .ensures

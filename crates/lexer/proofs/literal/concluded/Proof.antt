@@ -56,14 +56,14 @@ returns-3 c = simp (c .refused3 .ensures, c .before .enum-told3 .given .1)
 
 returns-4 : tie.Need-returns-4
 unfolding concluded
-returns-4 c = 
+returns-4 c =
     let s = c .before .before .before in
     let e = sym (s .with-sign .ensures) ∙ ap signedOf (c .before .enum-told4 .given .1) in
     simp (c .refused4 .ensures, s .before .before .x .given .1, e)
 
 returns-5 : tie.Need-returns-5
 unfolding concluded
-returns-5 c = 
+returns-5 c =
     let s = c .before .before .before .before in
     let e = sym (s .with-sign .ensures) ∙ ap signedOf (c .before .before .w .given .1) in
     simp (c .less .ensures, s .before .before .x .given .1, e)

@@ -1,0 +1,261 @@
+-- For each public function of the lower crates two wrong answers that its promise rules out, on a given input, refuted by computation.
+use mathlib.Core.Path.{_≡_, refl, sym, ap, _∙_}
+use mathlib.Core.Bool.{Bool, true, false}
+use mathlib.Core.List.{List, [], _∷_}
+use Prim.Native.Nat.{ℕ, suc, _+_, _*_, _-_, _^_}
+use native.Mathlib.Omega.{arith}
+use lib.IntN.{ℤ, pos, negsuc}
+use lib.ListN.{length, getD, replicate}
+use lib.Signed.{ltZ}
+use Rattle.lists.specs.Over.{fitted}
+use Rattle.classes.specs.declared.Class.the-variants.{Space, Other, FormFeed}
+use Rattle.classes.specs.Classes.{classOf, blank, lineEnd, symbolFirst, symbolOther, digitOf, literalByte}
+use Rattle.wide.specs.declared.Limbs.{Limbs}
+use Rattle.wide.specs.declared.Wide.{Wide}
+use Rattle.wide.specs.declared.Grown.{Grown}
+use Rattle.wide.specs.declared.Grown.the-variants.{Fits, Over}
+use Rattle.wide.specs.Value.{val, value, valueOf, grown, Integer, is as integer, refused as no-integer, integerOf}
+use Rattle.wide.specs.Decimal.{digits, decimalOf}
+use Rattle.wide.specs.Bytes.{le, number, numberIn, wideBytes, wideIn}
+use Rattle.lexer.specs.declared.literal.Reading.{Reading}
+use Rattle.lexer.specs.declared.literal.Reading.the-variants.{Empty, Foreign, Over as TooMuch, Number}
+use Rattle.lexer.specs.Tokens.{Answer, end, is, refused, token, int, symbol}
+use Rattle.lexer.specs.Literals.{taken, grow, reading, literalEnd, radixOf, concluded, unsignedIn}
+use Rattle.lexer.specs.Lexing.{skip, symbolEnd, lexIn, nextToken}
+
+abbrev Not : Type 0 → Type 0
+Not P = P → ⊥
+
+abbrev wide : ℤ → ℕ → Wide
+wide h l = record { hi = h; lo = l }
+
+abbrev highOf : Grown → ℕ
+highOf (Fits n) = n .hi
+highOf Over = 0
+
+abbrev lowOf : Reading → ℕ
+lowOf (Number n) = n .lo
+lowOf Empty = 0
+lowOf Foreign = 0
+lowOf TooMuch = 0
+
+abbrev startOf : Answer → ℕ
+startOf (is t) = t .start
+startOf end = 0
+startOf (refused n a) = 0
+
+-- lists::byte_at: 0 everywhere; the last byte past the end
+byte-at-zero : Not (_≡_ {A = ℕ} 0 (getD (7 ∷ []) 0 0))
+byte-at-zero e = omega arith
+
+byte-at-last : Not (_≡_ {A = ℕ} 7 (getD (7 ∷ []) 1 0))
+byte-at-last e = omega arith
+
+-- lists::less: a difference that wraps; the distance
+less-wraps : Not (2 ^ 64 - 1 ≡ 1 - 2)
+less-wraps e = omega arith
+
+less-distance : Not (1 ≡ 1 - 2)
+less-distance e = omega arith
+
+-- classes::class_of: form feed as a blank; vertical tab as a blank
+class-form-feed : Not (Space ≡ classOf 12)
+unfolding classOf
+class-form-feed e = let z : _≡_ {A = ℕ} 0 1 = cc in omega arith
+
+class-vertical-tab : Not (Space ≡ classOf 11)
+unfolding classOf
+class-vertical-tab e = let z : _≡_ {A = ℕ} 0 1 = cc in omega arith
+
+-- classes::is_blank: form feed is one; CR is none
+blank-form-feed : Not (true ≡ blank (classOf 12))
+unfolding classOf
+blank-form-feed e = let z : _≡_ {A = ℕ} 0 1 = cc in omega arith
+
+blank-return : Not (false ≡ blank (classOf 13))
+unfolding classOf
+blank-return e = let z : _≡_ {A = ℕ} 0 1 = cc in omega arith
+
+-- classes::is_line_end: only LF is one; a space is one
+line-return : Not (false ≡ lineEnd (classOf 13))
+unfolding classOf
+line-return e = let z : _≡_ {A = ℕ} 0 1 = cc in omega arith
+
+line-space : Not (true ≡ lineEnd (classOf 32))
+unfolding classOf
+line-space e = let z : _≡_ {A = ℕ} 0 1 = cc in omega arith
+
+-- classes::is_sym_first_char: `-` begins a symbol; byte 200 begins none
+first-minus : Not (true ≡ symbolFirst (classOf 45))
+unfolding classOf
+first-minus e = let z : _≡_ {A = ℕ} 0 1 = cc in omega arith
+
+first-high : Not (false ≡ symbolFirst (classOf 200))
+unfolding classOf
+first-high e = let z : _≡_ {A = ℕ} 0 1 = cc in omega arith
+
+-- classes::is_sym_other_char: `@` goes on in a symbol; a digit doesn't
+other-at : Not (true ≡ symbolOther (classOf 64))
+unfolding classOf
+other-at e = let z : _≡_ {A = ℕ} 0 1 = cc in omega arith
+
+other-digit : Not (false ≡ symbolOther (classOf 48))
+unfolding classOf
+other-digit e = let z : _≡_ {A = ℕ} 0 1 = cc in omega arith
+
+-- classes::digit_of: upper case has no value; `g` is 16 and so is no digit, not 0
+digit-upper : Not (16 ≡ digitOf 65)
+unfolding digitOf
+digit-upper e = omega arith
+
+digit-none : Not (0 ≡ digitOf 103)
+unfolding digitOf
+digit-none e = omega arith
+
+-- classes::is_literal_byte: no underscore; `g` too
+literal-underscore : Not (false ≡ literalByte 95)
+unfolding literalByte digitOf
+literal-underscore e = let z : _≡_ {A = ℕ} 0 1 = cc in omega arith
+
+literal-letter : Not (true ≡ literalByte 103)
+unfolding literalByte digitOf
+literal-letter e = let z : _≡_ {A = ℕ} 0 1 = cc in omega arith
+
+-- wide::grow: a carry lost between the limbs; 2^128 let through
+grow-carry : Not (Fits (record { hi = 0; lo = 0 }) ≡ grown (2 ^ 63 * 2 + 0))
+unfolding grown
+grow-carry e = let z : _≡_ {A = ℕ} 0 1 = ap highOf e in omega arith
+
+grow-over : Not (Fits (record { hi = 0; lo = 0 }) ≡ grown ((2 ^ 128 - 1) * 2 + 2))
+unfolding grown
+grow-over e = let z : _≡_ {A = ℕ} 0 1 = cc in omega arith
+
+-- wide::with_sign: saturated above 2^127-1; `-` with 2^127 let through
+sign-saturates : Not (integer (pos (2 ^ 127 - 1)) ≡ integerOf false (2 ^ 128 - 1))
+unfolding integerOf
+sign-saturates e = let z : _≡_ {A = ℕ} 0 1 = cc in omega arith
+
+sign-lowest : Not (integer (negsuc (2 ^ 127 - 1)) ≡ integerOf true (2 ^ 127))
+unfolding integerOf
+sign-lowest e = let z : _≡_ {A = ℕ} 0 1 = cc in omega arith
+
+-- wide::negative: by the low limb; 0 is negative
+negative-low : Not (true ≡ ltZ (value (wide (pos 0) (2 ^ 64 - 1))) (pos 0))
+unfolding valueOf
+negative-low e = let z : _≡_ {A = ℕ} 0 1 = cc in omega arith
+
+negative-zero : Not (true ≡ ltZ (value (wide (pos 0) 0)) (pos 0))
+unfolding valueOf
+negative-zero e = let z : _≡_ {A = ℕ} 0 1 = cc in omega arith
+
+-- wide::decimal_len: 0 for zero; the minus sign left out
+len-zero : Not (0 ≡ length (decimalOf (value (wide (pos 0) 0))))
+unfolding valueOf decimalOf digits
+len-zero e = omega arith
+
+len-minus : Not (1 ≡ length (decimalOf (value (wide (negsuc 0) (2 ^ 64 - 1)))))
+unfolding valueOf decimalOf digits
+len-minus e = omega arith
+
+-- wide::put_decimal: a leading zero; a byte written where the room is too short
+decimal-leading : Not (48 ∷ 55 ∷ [] ≡ fitted (decimalOf (value (wide (pos 0) 7))) (0 ∷ 0 ∷ []))
+unfolding valueOf decimalOf digits
+decimal-leading e = let z : _≡_ {A = ℕ} 48 55 = cc in omega arith
+
+decimal-short : Not (49 ∷ [] ≡ fitted (decimalOf (value (wide (pos 0) 12))) (0 ∷ []))
+unfolding valueOf decimalOf digits
+decimal-short e = let z : _≡_ {A = ℕ} 49 0 = cc in omega arith
+
+-- wide::put_u16: the most significant byte first; a byte past the number changed
+u16-order : Not (0 ∷ 1 ∷ [] ≡ fitted (le 2 1) (9 ∷ 9 ∷ []))
+unfolding le
+u16-order e = let z : _≡_ {A = ℕ} 0 1 = cc in omega arith
+
+u16-past : Not (1 ∷ 0 ∷ 0 ∷ [] ≡ fitted (le 2 1) (9 ∷ 9 ∷ 9 ∷ []))
+unfolding le
+u16-past e = let z : _≡_ {A = ℕ} 0 9 = cc in omega arith
+
+-- wide::put_u32: two bytes only; bytes written where the room is too short
+u32-two : Not (1 ∷ 0 ∷ 9 ∷ 9 ∷ [] ≡ fitted (le 4 1) (9 ∷ 9 ∷ 9 ∷ 9 ∷ []))
+unfolding le
+u32-two e = let z : _≡_ {A = ℕ} 9 0 = cc in omega arith
+
+u32-short : Not (1 ∷ 0 ∷ 0 ∷ [] ≡ fitted (le 4 1) (9 ∷ 9 ∷ 9 ∷ []))
+unfolding le
+u32-short e = let z : _≡_ {A = ℕ} 1 9 = cc in omega arith
+
+-- wide::put_wide: a minus sign lost; nothing written
+wide-sign : Not (1 ∷ replicate 15 0 ≡ fitted (wideBytes (negsuc 0)) (replicate 16 9))
+unfolding le
+wide-sign e = let z : _≡_ {A = ℕ} 1 255 = cc in omega arith
+
+wide-none : Not (replicate 16 9 ≡ fitted (wideBytes (pos 0)) (replicate 16 9))
+unfolding le
+wide-none e = let z : _≡_ {A = ℕ} 9 0 = cc in omega arith
+
+-- wide::u16_at, u32_at: the most significant byte first; what is left of a number that the end cuts
+at-order : Not (1 ≡ numberIn 2 (0 ∷ 1 ∷ []) 0)
+unfolding number
+at-order e = omega arith
+
+at-cut : Not (7 ≡ numberIn 4 (7 ∷ 0 ∷ 0 ∷ []) 0)
+unfolding number
+at-cut e = omega arith
+
+-- wide::wide_at: read without a sign; 16 bytes that the end cuts
+wide-unsigned : Not (pos (2 ^ 128 - 1) ≡ wideIn (replicate 16 255) 0)
+unfolding number
+wide-unsigned e = let z : _≡_ {A = ℕ} 0 1 = cc in omega arith
+
+wide-cut : Not (pos 7 ≡ wideIn (7 ∷ []) 0)
+unfolding number
+wide-cut e = let z : _≡_ {A = ℕ} 7 0 = cc in omega arith
+
+-- lexer::literal::grow: an underscore counts as 0; over before foreign
+grow-underscore : Not (Number (record { hi = 0; lo = 0 }) ≡ grow 10 (Number (record { hi = 0; lo = 1 })) 95)
+unfolding grow
+grow-underscore e = let z : _≡_ {A = ℕ} 0 1 = ap lowOf e in omega arith
+
+grow-order : Not (TooMuch ≡ grow 10 (Number (record { hi = 2 ^ 64 - 1; lo = 2 ^ 64 - 1 })) 97)
+unfolding grow taken digitOf
+grow-order e = let z : _≡_ {A = ℕ} 0 1 = cc in omega arith
+
+-- lexer::literal::digits_from: `12ab` ends before `a`; a fault is forgotten
+digits-stop : Not (2 ≡ literalEnd (49 ∷ 50 ∷ 97 ∷ 98 ∷ []) 0)
+unfolding literalEnd literalByte digitOf
+digits-stop e = omega arith
+
+digits-forget : Not (Number (record { hi = 0; lo = 12 }) ≡ reading 10 Empty (49 ∷ 97 ∷ 50 ∷ []))
+unfolding reading grow taken grown val literalByte digitOf
+digits-forget e = let z : _≡_ {A = ℕ} 0 1 = cc in omega arith
+
+-- lexer::literal::radix_of: `0X` is radix 10; `1x` names one
+radix-upper : Not (10 ≡ radixOf 48 88)
+unfolding radixOf
+radix-upper e = omega arith
+
+radix-one : Not (16 ≡ radixOf 49 120)
+unfolding radixOf
+radix-one e = omega arith
+
+-- lexer::literal::concluded: no digits read as 0; the place past a bad literal
+concluded-empty : Not (is (token (int (pos 0)) 3 1) ≡ concluded true 3 4 Empty)
+unfolding concluded
+concluded-empty e = let z : _≡_ {A = ℕ} 0 1 = cc in omega arith
+
+concluded-place : Not (refused 6 4 ≡ concluded false 0 4 Foreign)
+unfolding concluded
+concluded-place e = let z : _≡_ {A = ℕ} 4 0 = cc in omega arith
+
+-- lexer::next_token: a comment that ends at the first `;)`; `12ab` as 12; vertical tab as a blank
+next-first-closer : Not (is (token symbol 6 3) ≡ nextToken (40 ∷ 59 ∷ 40 ∷ 59 ∷ 59 ∷ 41 ∷ 120 ∷ 59 ∷ 41 ∷ []) 0)
+unfolding nextToken lexIn skip symbolEnd classOf literalByte digitOf taken grow reading literalEnd radixOf concluded unsignedIn val grown integerOf
+next-first-closer e = let z : _≡_ {A = ℕ} 0 1 = cc in omega arith
+
+next-twelve : Not (is (token (int (pos 12)) 0 2) ≡ nextToken (49 ∷ 50 ∷ 97 ∷ 98 ∷ []) 0)
+unfolding nextToken lexIn skip symbolEnd classOf literalByte digitOf taken grow reading literalEnd radixOf concluded unsignedIn val grown integerOf
+next-twelve e = let z : _≡_ {A = ℕ} 0 1 = cc in omega arith
+
+next-vertical-tab : Not (is (token symbol 1 1) ≡ nextToken (11 ∷ 97 ∷ []) 0)
+unfolding nextToken lexIn skip symbolEnd classOf literalByte digitOf taken grow reading literalEnd radixOf concluded unsignedIn val grown integerOf
+next-vertical-tab e = let z : _≡_ {A = ℕ} 1 0 = ap startOf e in omega arith

@@ -1,0 +1,77 @@
+-- For each public function of the feeder and the table two wrong answers that its promise rules out, on a given input, refuted by computation.
+use mathlib.Core.Path.{_≡_, ap}
+use mathlib.Core.Bool.{Bool, true, false}
+use mathlib.Core.List.{List, [], _∷_}
+use Prim.Native.Nat.{ℕ, suc, _+_}
+use native.Mathlib.Omega.{arith}
+use Rattle.classes.specs.Classes.{classOf}
+use Rattle.wide.specs.Bytes.{number}
+use Rattle.lexer.specs.Tokens.{token, lparen, rparen, symbol}
+use Rattle.feeder.specs.declared.State.{State}
+use Rattle.feeder.specs.declared.Mode.the-variants.{Blank, Line, Opener, Symbol as InSymbol}
+use Rattle.feeder.specs.Machine.{turn, step, closing}
+use Rattle.feeder.specs.Feeding.{Reply, more, finish, ready, refuse, Fed, fed, live, closed, dead, freshState, feedFrom, feedOf, closeOf}
+use Rattle.table.specs.declared.Record.the-variants.{Symbol, Integer, Binding, Bad}
+use Rattle.table.specs.Trees.{runsOn, isSymbol}
+use Rattle.table.specs.Records.{recordAt}
+use Rattle.table.specs.Decoding.{itemsAt, treeAt, treesAt, tableOf, Verdict, good, bad, judged}
+
+abbrev Not : Type 0 → Type 0
+Not P = P → ⊥
+
+-- feeder::fresh: a byte was consumed
+fresh-place : Not (live Blank 1 ≡ freshState)
+fresh-place e = let z : _≡_ {A = ℕ} 1 0 = ap (λ (s : State). s .place) e in omega arith
+
+-- feeder::feed: `(` handed out before its next byte; `)` kept back; a form feed consumed; fed after a close
+feed-early : Not (fed (ready (token lparen 0 1)) 1 (live Blank 1) ≡ feedOf freshState (40 ∷ []))
+unfolding feedOf feedFrom step turn classOf
+feed-early e = let r = ap (λ (f : Fed). f .reply) e in let z : _≡_ {A = ℕ} 0 1 = cc r in omega arith
+
+feed-late : Not (fed more 1 (live Blank 1) ≡ feedOf freshState (41 ∷ []))
+unfolding feedOf feedFrom step turn classOf
+feed-late e = let r = ap (λ (f : Fed). f .reply) e in let z : _≡_ {A = ℕ} 0 1 = cc r in omega arith
+
+feed-form-feed : Not (fed (refuse 3 0) 1 (dead 3 0 1) ≡ feedOf freshState (12 ∷ []))
+unfolding feedOf feedFrom step turn classOf
+feed-form-feed e = let z : _≡_ {A = ℕ} 1 0 = ap (λ (f : Fed). f .used) e in omega arith
+
+feed-closed : Not (fed more 0 (closed 5) ≡ feedOf (closed 5) [])
+unfolding feedOf
+feed-closed e = let r = ap (λ (f : Fed). f .reply) e in let z : _≡_ {A = ℕ} 0 1 = cc r in omega arith
+
+-- feeder::close: the held token is dropped; a closed state is refused
+close-drops : Not (fed finish 0 (closed 1) ≡ closeOf (live (InSymbol 0) 1))
+unfolding closeOf closing
+close-drops e = let r = ap (λ (f : Fed). f .reply) e in let z : _≡_ {A = ℕ} 0 1 = cc r in omega arith
+
+close-again : Not (fed (refuse 19 5) 0 (closed 5) ≡ closeOf (closed 5))
+unfolding closeOf
+close-again e = let r = ap (λ (f : Fed). f .reply) e in let z : _≡_ {A = ℕ} 0 1 = cc r in omega arith
+
+-- table::record_at: an empty symbol is bad; a length past the end is let through
+record-empty : Not (Bad ≡ recordAt (6 ∷ 0 ∷ 0 ∷ 0 ∷ 1 ∷ 0 ∷ []) 0)
+unfolding recordAt number
+record-empty e = let z : _≡_ {A = ℕ} 0 1 = cc in omega arith
+
+record-past : Not (Symbol 7 ≡ recordAt (7 ∷ 0 ∷ 0 ∷ 0 ∷ 1 ∷ 0 ∷ []) 0)
+unfolding recordAt number
+record-past e = let z : _≡_ {A = ℕ} 0 1 = cc in omega arith
+
+-- table::is_symbol: the empty one; one that begins with a digit
+symbol-empty : Not (true ≡ isSymbol [])
+unfolding isSymbol
+symbol-empty e = let z : _≡_ {A = ℕ} 0 1 = cc in omega arith
+
+symbol-digit : Not (true ≡ isSymbol (49 ∷ 97 ∷ []))
+unfolding isSymbol runsOn classOf
+symbol-digit e = let z : _≡_ {A = ℕ} 0 1 = cc in omega arith
+
+-- table::check: the empty table is refused; a table that ends inside a list is good
+check-empty : Not (bad 15 0 ≡ judged (tableOf false []))
+unfolding tableOf treesAt
+check-empty e = let z : _≡_ {A = ℕ} 0 1 = cc in omega arith
+
+check-missing : Not (good ≡ judged (tableOf false (10 ∷ 0 ∷ 0 ∷ 0 ∷ 4 ∷ 0 ∷ 1 ∷ 0 ∷ 0 ∷ 0 ∷ [])))
+unfolding tableOf treesAt treeAt itemsAt recordAt number
+check-missing e = let z : _≡_ {A = ℕ} 0 1 = cc in omega arith

@@ -1,0 +1,47 @@
+-- Trees that have a text which the lexer reads back: valid symbols, and integers in range but for -2^127, at any depth and of any size. Assumes nothing.
+use mathlib.Core.Path.{_≡_, refl, ap}
+use mathlib.Core.Bool.{Bool, true, false}
+use lib.Dec.{ltb}
+use Prim.Native.Nat.{ℕ, suc, _-_, _^_, _≤_, _<_}
+use native.Mathlib.Omega.{arith}
+use borrow.Author.Tests.{ltb-true, ltb-false}
+use lib.IntN.{ℤ, pos, negsuc, natAbs}
+use Rattle.table.specs.Trees.{Tree, Trees, symbol, integer, binding, list, none, more, isSymbol, InRange, Good, Goods}
+use Rattle.table.specs.Printable.{lowestInteger, Printable, Printables}
+
+unfoldable mutual
+  pub Sayable : Tree → Type 0
+  Sayable (symbol n) = isSymbol n ≡ true
+  Sayable (integer z) = InRange z × (z ≡ lowestInteger → ⊥)
+  Sayable (binding n x) = (isSymbol n ≡ true) × Sayable x
+  Sayable (list xs) = Sayables xs
+
+  pub Sayables : Trees → Type 0
+  Sayables none = Unit {0}
+  Sayables (more x xs) = Sayable x × Sayables xs
+
+-- an integer in range that is not -2^127 has a magnitude below 2^127
+above : (N n : ℕ) → n < N → (n ≡ N - 1 → ⊥) → suc n < N
+above N n h d = by (ltb (suc n) N) refl
+  where
+    by : (t : Bool) → ltb (suc n) N ≡ t → suc n < N
+    by true e = ltb-true (suc n) N e
+    by false e = let h' : N ≤ suc n = ltb-false (suc n) N e in absurd (d (omega arith))
+
+pub magnitude : (z : ℤ) → InRange z → (z ≡ lowestInteger → ⊥) → natAbs z < 2 ^ 127
+magnitude (pos n) h d = h
+magnitude (negsuc n) h d = above (2 ^ 127) n h (λ e. d (ap negsuc e))
+
+-- good trees that can be printed, as a table that is printed holds them
+mutual
+  unfolding Sayable Printable Good
+
+  pub sayable : (x : Tree) (d : ℕ) → Good x d → Printable x → Sayable x
+  sayable (symbol n) d g p = g .0
+  sayable (integer z) d g p = (g, p)
+  sayable (binding n x) d g p = (g .1, sayable x (d - 1) (g .3) p)
+  sayable (list xs) d g p = sayables xs (d - 1) (g .2) p
+
+  pub sayables : (xs : Trees) (d : ℕ) → Goods xs d → Printables xs → Sayables xs
+  sayables none d g p = tt
+  sayables (more x xs) d g p = (sayable x d (g .0) (p .0), sayables xs d (g .1) (p .1))

@@ -1,0 +1,254 @@
+-- `feeder::runs::in_blank`: at each place, what is left of the call is what was left at the start; a line for each class.
+use Prim.Native.Nat.{ℕ, _+_, _-_, _≤_, _<_}
+use mathlib.Core.Path.{_≡_, refl, sym, ap, _∙_}
+use mathlib.Core.List.{List}
+use native.Mathlib.Omega.{arith}
+use borrow.Author.Needs.{needs}
+use lib.ListN.{length, getD}
+use denote.Ref.{now}
+use Rattle.feeder.specs.Code.{call}
+use mathlib.Core.Bool.{false}
+use Rattle.refusals.specs.Numbers.{sourceLimit, formFeed}
+use Rattle.classes.specs.Classes.{classOf}
+use Rattle.lexer.specs.Tokens.{token, rparen, at-sign}
+use Rattle.feeder.specs.Machine.{Blank, Line, Opener, Sign, Symbol, begun, turn}
+use Rattle.feeder.proofs.Calls.{call-go, call-take, call-halt}
+use Rattle.feeder.proofs.runs.in_blank.Statement.{statement}
+use Rattle.feeder.proofs.runs.in_blank.Tie as tie
+
+abbrev Inv-loop : tie.InvT-loop
+Inv-loop piece place i stop j₀ j = (i ≤ j) × (j ≤ stop) × (call piece place j Blank ≡ call piece place i Blank)
+
+abbrev μ-loop : tie.MeasureT-loop
+μ-loop piece place i stop j₀ j = stop - j
+
+-- the piece, the place of its first byte, and the byte's place in it
+abbrev Q : tie.After-class-of Inv-loop μ-loop → List ℕ
+Q u = now (u .before .before .before .before .before .args .piece)
+
+abbrev P : tie.After-class-of Inv-loop μ-loop → ℕ
+P u = u .before .before .before .before .before .args .place
+
+abbrev J : tie.After-class-of Inv-loop μ-loop → ℕ
+J u = u .before .before .before .loop .j
+
+told : (u : tie.After-class-of Inv-loop μ-loop) → classOf (getD (Q u) (J u) 0) ≡ u .class-of .result
+told u = sym (u .class-of .ensures)
+
+lt : (u : tie.After-class-of Inv-loop μ-loop) → J u < length (Q u)
+lt u = omega arith
+
+below : (u : tie.After-class-of Inv-loop μ-loop) → P u + J u < sourceLimit
+below u = omega arith
+
+kept : (u : tie.After-class-of Inv-loop μ-loop) → call (Q u) (P u) (J u) Blank ≡ call (Q u) (P u) (u .before .before .before .before .before .args .i) Blank
+kept u = u .before .before .before .loop .inv .2
+
+loop-holds : tie.Need-loop-holds Inv-loop μ-loop
+loop-holds c = (omega arith, omega arith, refl)
+
+shared-slice-read-b : tie.Need-shared-slice-read-b Inv-loop μ-loop
+shared-slice-read-b c = omega arith
+
+class-of-requires : tie.Need-class-of-requires Inv-loop μ-loop
+class-of-requires c κs = tt
+
+enum-told : tie.Need-enum-told Inv-loop μ-loop
+enum-told c = search needs
+
+add-j : tie.Need-add-j Inv-loop μ-loop
+add-j c = omega arith
+
+loop-less : tie.Need-loop-less Inv-loop μ-loop
+loop-less c = omega arith
+
+loop-again : tie.Need-loop-again Inv-loop μ-loop
+unfolding turn
+loop-again c =
+    let u = c .before .before in
+    (omega arith, omega arith, sym (call-go (Q u) (P u) (J u) Blank (lt u) (below u) Blank (rw (told u ∙ c .enum-told .given .1) refl)) ∙ kept u)
+
+enum-told-2 : tie.Need-enum-told-2 Inv-loop μ-loop
+enum-told-2 c = search needs
+
+add-j-2 : tie.Need-add-j-2 Inv-loop μ-loop
+add-j-2 c = omega arith
+
+loop-less-2 : tie.Need-loop-less-2 Inv-loop μ-loop
+loop-less-2 c = omega arith
+
+loop-again-2 : tie.Need-loop-again-2 Inv-loop μ-loop
+unfolding turn
+loop-again-2 c =
+    let u = c .before .before in
+    (omega arith, omega arith, sym (call-go (Q u) (P u) (J u) Blank (lt u) (below u) Blank (rw (told u ∙ c .enum-told2 .given .1) refl)) ∙ kept u)
+
+enum-told-3 : tie.Need-enum-told-3 Inv-loop μ-loop
+enum-told-3 c = search needs
+
+add-t12 : tie.Need-add-t12 Inv-loop μ-loop
+add-t12 c = omega arith
+
+returns : tie.Need-returns Inv-loop μ-loop
+unfolding turn
+returns c =
+    let u = c .before .before in
+    ((omega arith, omega arith), sym (call-go (Q u) (P u) (J u) Blank (lt u) (below u) Line (rw (told u ∙ c .enum-told3 .given .1) refl)) ∙ kept u)
+
+enum-told-4 : tie.Need-enum-told-4 Inv-loop μ-loop
+enum-told-4 c = search needs
+
+add-t13 : tie.Need-add-t13 Inv-loop μ-loop
+add-t13 c = omega arith
+
+add-t15 : tie.Need-add-t15 Inv-loop μ-loop
+add-t15 c = omega arith
+
+returns-2 : tie.Need-returns-2 Inv-loop μ-loop
+unfolding turn
+returns-2 c =
+    let u = c .before .before in
+    ((omega arith, omega arith), sym (call-go (Q u) (P u) (J u) Blank (lt u) (below u) (Opener (P u + J u)) (rw (told u ∙ c .enum-told4 .given .1) refl)) ∙ kept u)
+
+enum-told-5 : tie.Need-enum-told-5 Inv-loop μ-loop
+enum-told-5 c = search needs
+
+add-t17 : tie.Need-add-t17 Inv-loop μ-loop
+add-t17 c = omega arith
+
+add-t18 : tie.Need-add-t18 Inv-loop μ-loop
+add-t18 c = omega arith
+
+returns-3 : tie.Need-returns-3 Inv-loop μ-loop
+unfolding turn
+returns-3 c =
+    let u = c .before .before in
+    (omega arith, sym (call-take (Q u) (P u) (J u) Blank (lt u) (below u) (token rparen (P u + J u) 1) (rw (told u ∙ c .enum-told5 .given .1) refl)) ∙ kept u)
+
+enum-told-6 : tie.Need-enum-told-6 Inv-loop μ-loop
+enum-told-6 c = search needs
+
+add-t20 : tie.Need-add-t20 Inv-loop μ-loop
+add-t20 c = omega arith
+
+add-t21 : tie.Need-add-t21 Inv-loop μ-loop
+add-t21 c = omega arith
+
+returns-4 : tie.Need-returns-4 Inv-loop μ-loop
+unfolding turn
+returns-4 c =
+    let u = c .before .before in
+    (omega arith, sym (call-take (Q u) (P u) (J u) Blank (lt u) (below u) (token at-sign (P u + J u) 1) (rw (told u ∙ c .enum-told6 .given .1) refl)) ∙ kept u)
+
+enum-told-7 : tie.Need-enum-told-7 Inv-loop μ-loop
+enum-told-7 c = search needs
+
+add-t22 : tie.Need-add-t22 Inv-loop μ-loop
+add-t22 c = omega arith
+
+returns-5 : tie.Need-returns-5 Inv-loop μ-loop
+unfolding turn
+returns-5 c =
+    let u = c .before .before in
+    (omega arith, sym (call-halt (Q u) (P u) (J u) Blank (lt u) (below u) formFeed (P u + J u) (rw (told u ∙ c .enum-told7 .given .1) refl)) ∙ kept u)
+
+enum-told-8 : tie.Need-enum-told-8 Inv-loop μ-loop
+enum-told-8 c = search needs
+
+add-t24 : tie.Need-add-t24 Inv-loop μ-loop
+add-t24 c = omega arith
+
+add-t26 : tie.Need-add-t26 Inv-loop μ-loop
+add-t26 c = omega arith
+
+returns-6 : tie.Need-returns-6 Inv-loop μ-loop
+unfolding turn
+returns-6 c =
+    let u = c .before .before in
+    ((omega arith, omega arith), sym (call-go (Q u) (P u) (J u) Blank (lt u) (below u) (Sign (P u + J u)) (rw (told u ∙ c .enum-told8 .given .1) refl)) ∙ kept u)
+
+enum-told-9 : tie.Need-enum-told-9 Inv-loop μ-loop
+enum-told-9 c = search needs
+
+add-begun-by : tie.Need-add-begun-by Inv-loop μ-loop
+add-begun-by c = omega arith
+
+begun-by-requires : tie.Need-begun-by-requires Inv-loop μ-loop
+begun-by-requires c κs = tt
+
+add-t29 : tie.Need-add-t29 Inv-loop μ-loop
+add-t29 c = omega arith
+
+returns-7 : tie.Need-returns-7 Inv-loop μ-loop
+unfolding turn
+returns-7 c =
+    let u = c .before .before .before in
+    ((omega arith, omega arith), rw (c .begun-by .ensures) (sym (call-go (Q u) (P u) (J u) Blank (lt u) (below u) (begun (P u + J u) false (getD (Q u) (J u) 0)) (rw (told u ∙ c .before .enum-told9 .given .1) refl)) ∙ kept u))
+
+enum-told-10 : tie.Need-enum-told-10 Inv-loop μ-loop
+enum-told-10 c = search needs
+
+add-t30 : tie.Need-add-t30 Inv-loop μ-loop
+add-t30 c = omega arith
+
+add-t32 : tie.Need-add-t32 Inv-loop μ-loop
+add-t32 c = omega arith
+
+returns-8 : tie.Need-returns-8 Inv-loop μ-loop
+unfolding turn
+returns-8 c =
+    let u = c .before .before in
+    ((omega arith, omega arith), sym (call-go (Q u) (P u) (J u) Blank (lt u) (below u) (Symbol (P u + J u)) (rw (told u ∙ c .enum-told10 .given .1) refl)) ∙ kept u)
+
+returns-9 : tie.Need-returns-9 Inv-loop μ-loop
+returns-9 c = ((omega arith, omega arith), c .before .loop .inv .2)
+
+pub in-blank-spec : {M : Type 1} → statement M
+in-blank-spec =
+    tie.close
+    (tie.spec
+    Inv-loop
+    μ-loop
+    loop-holds
+    shared-slice-read-b
+    class-of-requires
+    enum-told
+    add-j
+    loop-less
+    loop-again
+    enum-told-2
+    add-j-2
+    loop-less-2
+    loop-again-2
+    enum-told-3
+    add-t12
+    returns
+    enum-told-4
+    add-t13
+    add-t15
+    returns-2
+    enum-told-5
+    add-t17
+    add-t18
+    returns-3
+    enum-told-6
+    add-t20
+    add-t21
+    returns-4
+    enum-told-7
+    add-t22
+    returns-5
+    enum-told-8
+    add-t24
+    add-t26
+    returns-6
+    enum-told-9
+    add-begun-by
+    begun-by-requires
+    add-t29
+    returns-7
+    enum-told-10
+    add-t30
+    add-t32
+    returns-8
+    returns-9)

@@ -1,0 +1,90 @@
+//! The lines that a frame is answered with, from any side that can lex, feed, read, check and lay out.
+
+use std::io::Write;
+
+use crate::drive::{self, Feeder};
+use crate::frame::{Frame, OUTPUT_ROOM, TABLE_ROOM};
+use crate::token::{Answer, LIMIT, Lexed, Refusal, refusal};
+use crate::tree::Tree;
+
+/// One way to come by document 01's answers. Lengths and rooms are judged here, the same for every side.
+pub trait Side {
+    /// Tokens from a place within the source; places count from the source's start.
+    fn lex(&self, source: &[u8], from: usize) -> Lexed;
+    /// A fresh feeder for this source.
+    fn feeder(&self, source: &[u8]) -> Box<dyn Feeder>;
+    /// The whole table, or the first of 3 to 13.
+    fn read(&self, source: &[u8]) -> Result<Vec<u8>, Refusal>;
+    /// The table's trees, or the first of 15, 13, 16, 17.
+    fn check(&self, table: &[u8]) -> Result<Vec<Tree>, Refusal>;
+    /// All trees' text at this width.
+    fn lay_out(&self, trees: &[Tree], width: usize) -> Vec<u8>;
+}
+
+/// Writes the frame's lines and the closing line with a dot.
+pub fn answer(side: &dyn Side, frame: &Frame, out: &mut Vec<u8>) {
+    let (source, a, b) = (&frame.bytes[..], frame.a as usize, frame.b as usize);
+    match frame.op {
+        b'L' => lexed(lex(side, source, a), out),
+        b'F' | b'f' => drive::tokens(side.feeder(source), source, a, b, out),
+        b'C' => drive::calls(side.feeder(source), source, a, b, false, out),
+        b'c' => drive::calls(side.feeder(source), source, a, b, true, out),
+        b'R' => shown("table", read(side, source, a.min(TABLE_ROOM)), true, out),
+        b'P' => shown("print", print(side, source, a, b.min(OUTPUT_ROOM)), true, out),
+        b'W' => {
+            let table = read(side, source, TABLE_ROOM);
+            let text = table.and_then(|table| print(side, &table, a, OUTPUT_ROOM));
+            shown("text", text, false, out)
+        }
+        op => panic!("no op {op}"),
+    }
+    out.extend(b".\n");
+}
+
+fn lex(side: &dyn Side, source: &[u8], from: usize) -> Lexed {
+    let refused = if source.len() > LIMIT {
+        refusal(1, LIMIT)
+    } else if from > source.len() {
+        refusal(2, source.len())
+    } else {
+        return side.lex(source, from);
+    };
+    Lexed { tokens: Vec::new(), refusal: Some(refused) }
+}
+
+fn lexed(lexed: Lexed, out: &mut Vec<u8>) {
+    lexed.tokens.iter().for_each(|token| token.line(out));
+    lexed.refusal.map_or(Answer::End, Answer::Refused).line(out);
+}
+
+/// Reading with a room: 14 comes last and names the whole size.
+pub fn read(side: &dyn Side, source: &[u8], room: usize) -> Result<Vec<u8>, Refusal> {
+    if source.len() > LIMIT {
+        return Err(refusal(1, LIMIT));
+    }
+    let table = side.read(source)?;
+    if table.len() > room { Err(refusal(14, table.len())) } else { Ok(table) }
+}
+
+/// Printing with a room: 18 comes last and names the whole size.
+pub fn print(side: &dyn Side, table: &[u8], width: usize, room: usize) -> Result<Vec<u8>, Refusal> {
+    let trees = side.check(table)?;
+    let text = side.lay_out(&trees, width);
+    if text.len() > room { Err(refusal(18, text.len())) } else { Ok(text) }
+}
+
+/// The bytes in hex or the refusal. No correct answer touches a byte beyond its own, so it is always `kept`.
+fn shown(word: &str, result: Result<Vec<u8>, Refusal>, rooms: bool, out: &mut Vec<u8>) {
+    match result {
+        Ok(bytes) => {
+            writeln!(out, "{word} {}", bytes.len()).expect("a vector takes every byte");
+            let digit = |half: u8| b"0123456789abcdef"[half as usize];
+            out.extend(bytes.iter().flat_map(|byte| [digit(byte >> 4), digit(byte & 15)]));
+            out.push(b'\n');
+        }
+        Err(refusal) => refusal.line(out),
+    }
+    if rooms {
+        out.extend(b"kept\n");
+    }
+}

@@ -1,0 +1,84 @@
+//! Document 01, "How a table is laid out". It says also where the crate would panic.
+
+use crate::tree::{Tree, cost};
+
+pub struct Page {
+    pub out: Vec<u8>,
+    /// An empty list that doesn't fit was printed: here the crate has no answer.
+    pub unfitting_empty_list: bool,
+    column: usize,
+    indent: usize,
+    width: usize,
+}
+
+/// All trees, each with its LF, and one more LF between two.
+pub fn page(trees: &[Tree], width: usize) -> Page {
+    let mut page = Page { out: Vec::new(), unfitting_empty_list: false, column: 0, indent: 0, width };
+    for (i, tree) in trees.iter().enumerate() {
+        if i > 0 {
+            page.out.push(b'\n');
+        }
+        page.column = 0;
+        page.tree(tree, false);
+        page.out.push(b'\n');
+    }
+    page
+}
+
+impl Page {
+    fn put(&mut self, bytes: &[u8]) {
+        self.out.extend(bytes);
+        self.column += bytes.len();
+    }
+
+    /// The indent's spaces don't count in the column.
+    fn new_line(&mut self) {
+        self.out.push(b'\n');
+        self.column = 0;
+        self.out.extend(std::iter::repeat_n(b' ', 4 * self.indent));
+    }
+
+    fn fits(&self, list: &Tree) -> bool {
+        self.column <= self.width && cost(list) <= self.width - self.column
+    }
+
+    fn tree(&mut self, tree: &Tree, one_line: bool) {
+        match tree {
+            Tree::Symbol(bytes) => self.put(bytes),
+            Tree::Int(value) => self.put(value.to_string().as_bytes()),
+            Tree::Binding(name, inner) => {
+                self.put(name);
+                self.put(b" @ ");
+                self.tree(inner, one_line);
+            }
+            Tree::List(items) if one_line || self.fits(tree) => {
+                self.put(b"(");
+                for (i, item) in items.iter().enumerate() {
+                    if i > 0 {
+                        self.put(b" ");
+                    }
+                    self.tree(item, true);
+                }
+                self.put(b")");
+            }
+            Tree::List(items) => self.broken(items),
+        }
+    }
+
+    fn broken(&mut self, items: &[Tree]) {
+        self.put(b"(");
+        let Some((first, rest)) = items.split_first() else {
+            self.unfitting_empty_list = true;
+            return self.put(b")");
+        };
+        self.tree(first, false);
+        self.indent += 1;
+        for item in rest {
+            self.new_line();
+            self.tree(item, false);
+        }
+        self.indent -= 1;
+        self.new_line();
+        self.put(b")");
+    }
+}

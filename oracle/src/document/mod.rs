@@ -1,0 +1,7 @@
+//! Document 01 written out for what the crate cannot answer; none of it looks at the crate.
+
+pub mod calls;
+pub mod layout;
+pub mod lex;
+pub mod read;
+pub mod table;

@@ -1,0 +1,70 @@
+//! Document 01's check of a table, record after record, with the items still due on a stack.
+
+use crate::token::{Refusal, refusal};
+use crate::tree::{DEPTH, TABLE_LIMIT, Tree};
+
+/// An open list or binding: the trees it has, and how many it is to have.
+struct Open {
+    name: Option<Vec<u8>>,
+    items: Vec<Tree>,
+    due: usize,
+}
+
+/// Its trees, or the first refusal: in each record 15, 13, 16, 17, and missing trees at the end.
+pub fn trees(table: &[u8], is_symbol: &dyn Fn(&[u8]) -> bool) -> Result<Vec<Tree>, Refusal> {
+    if table.len() > TABLE_LIMIT {
+        return Err(refusal(1, TABLE_LIMIT));
+    }
+    let (mut whole, mut open, mut at) = (Vec::new(), Vec::<Open>::new(), 0);
+    while at < table.len() {
+        let (kind, payload) = record(&table[at..]).ok_or(refusal(15, at))?;
+        if kind >= 3 && open.len() == DEPTH {
+            return Err(refusal(13, at));
+        }
+        if kind % 2 == 1 && !is_symbol(payload) {
+            return Err(refusal(16, at));
+        }
+        let number = |bytes: &[u8]| bytes.iter().rev().fold(0u128, |n, byte| n << 8 | *byte as u128);
+        match kind {
+            1 => complete(&mut whole, &mut open, Tree::Symbol(payload.to_vec())),
+            2 if number(payload) == 1 << 127 => return Err(refusal(17, at)),
+            2 => complete(&mut whole, &mut open, Tree::Int(number(payload) as i128)),
+            3 => open.push(Open { name: Some(payload.to_vec()), items: Vec::new(), due: 1 }),
+            _ if number(payload) == 0 => complete(&mut whole, &mut open, Tree::List(Vec::new())),
+            _ => open.push(Open { name: None, items: Vec::new(), due: number(payload) as usize }),
+        }
+        at += payload.len() + 6;
+    }
+    if open.is_empty() { Ok(whole) } else { Err(refusal(15, table.len())) }
+}
+
+/// Kind and payload of the record at the front, unless it is bad.
+fn record(rest: &[u8]) -> Option<(u16, &[u8])> {
+    let head = rest.first_chunk::<6>()?;
+    let len = u32::from_le_bytes([head[0], head[1], head[2], head[3]]) as usize;
+    let kind = u16::from_le_bytes([head[4], head[5]]);
+    let good = match kind {
+        1 | 3 => len >= 6,
+        2 => len == 22,
+        4 => len == 10,
+        _ => false,
+    };
+    if good && len <= rest.len() { Some((kind, &rest[6..len])) } else { None }
+}
+
+/// Puts a complete tree where it belongs, and so on with what it completes.
+fn complete(whole: &mut Vec<Tree>, open: &mut Vec<Open>, tree: Tree) {
+    let mut tree = tree;
+    while let Some(mut last) = open.pop() {
+        last.items.push(tree);
+        if last.items.len() < last.due {
+            open.push(last);
+            return;
+        }
+        tree = match last.name {
+            Some(name) => Tree::Binding(name, Box::new(last.items.remove(0))),
+            None => Tree::List(last.items),
+        };
+    }
+    whole.push(tree);
+}
