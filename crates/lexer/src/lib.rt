@@ -136,11 +136,34 @@ fn unsigned_at(src: &[u8], minus: bool, start: usize, at: usize) -> Lexed
     literal::concluded(minus, start, d.end, reading)
 }
 
-// The next token from `at` on: blanks and comments are passed, and the first other byte decides.
-fn lex(src: &[u8], at: usize) -> Lexed
-    requires { ⌜ (at ≤ length (now src)) × (length (now src) ≤ sourceLimit) ⌝ }
-    ensures { λ r. ⌜ answerOf r ≡ lexAt (now (src .entry)) at ⌝ }
+// The same answer, taken apart and made anew, so that the caller need not copy it whole.
+fn anew(l: Lexed) -> Lexed
+    ensures { λ r. ⌜ r ≡ l ⌝ }
 {
+    match l {
+        Lexed::End => Lexed::End,
+        Lexed::Refused(r) => Lexed::Refused(r),
+        Lexed::Token(t, start) => match t {
+            Token::LParen => Lexed::Token(Token::LParen, start),
+            Token::RParen => Lexed::Token(Token::RParen, start),
+            Token::At => Lexed::Token(Token::At, start),
+            Token::Symbol(n) => Lexed::Token(Token::Symbol(n), start),
+            Token::Int(w, n) => Lexed::Token(Token::Int(w, n), start),
+        },
+    }
+}
+
+// The next token of the source from a place on, with its start; the end; or a refusal. Blanks and comments are passed, and the first
+// other byte decides. One loop in one function: an answer that a call wrote would be copied whole on every return.
+pub fn next_token(src: &[u8], at: usize) -> Lexed
+    ensures { λ r. ⌜ answerOf r ≡ nextToken (now (src .entry)) at ⌝ }
+{
+    if refusals::SOURCE_LIMIT < src.len() {
+        return refused(refusals::TOO_LONG, refusals::SOURCE_LIMIT);
+    }
+    if src.len() < at {
+        return refused(refusals::PAST_SOURCE, src.len());
+    }
     let mut i = at;
     while i < src.len() {
         match classes::class_of(src[i]) {
@@ -177,10 +200,12 @@ fn lex(src: &[u8], at: usize) -> Lexed
                 return refused(refusals::FORM_FEED, i);
             }
             Class::Minus => {
-                return unsigned_at(src, true, i, i + 1);
+                let literal = unsigned_at(src, true, i, i + 1);
+                return anew(literal);
             }
             Class::Digit => {
-                return unsigned_at(src, false, i, i);
+                let literal = unsigned_at(src, false, i, i);
+                return anew(literal);
             }
             Class::Other => {
                 let end = symbol_end(src, i + 1);
@@ -189,17 +214,4 @@ fn lex(src: &[u8], at: usize) -> Lexed
         }
     }
     Lexed::End
-}
-
-// The next token of the source from a place on, with its start; the end; or a refusal.
-pub fn next_token(src: &[u8], at: usize) -> Lexed
-    ensures { λ r. ⌜ answerOf r ≡ nextToken (now (src .entry)) at ⌝ }
-{
-    if refusals::SOURCE_LIMIT < src.len() {
-        return refused(refusals::TOO_LONG, refusals::SOURCE_LIMIT);
-    }
-    if src.len() < at {
-        return refused(refusals::PAST_SOURCE, src.len());
-    }
-    lex(src, at)
 }

@@ -102,7 +102,7 @@ listed-room : (s : List ℕ) (t : Token) (k : ℕ) (y : Many) → Room (listed s
 unfolding records
 listed-room s t k (upTo xs u) r =
     let g : length (record-of 4 (le 4 (count xs)) ++ recordsOf xs) ≡ 10 + length (recordsOf xs) =
-        simp (length-append, length-record, le-length) (omega arith) in
+    simp (length-append, length-record, le-length) (omega arith) in
     (omega arith, omega arith)
 listed-room s t k (toEnd xs) r = absurd r
 listed-room s t k (none-of m p) r = absurd r

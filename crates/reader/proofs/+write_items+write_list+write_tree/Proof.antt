@@ -206,9 +206,14 @@ write-items-loop-again t c =
     let e = name-seen-size _ (a .depth) _ _ _ _ (l .inv .0) (h .0) (h .1) (h .2) in
     let q = one-spans _ _ _ _ _ (l .inv .0) e in
     let k = item-took _ (length s) (l .n) _ _ _ _ (l .inv .5 .room) (omega (arith, l .inv .1, place-top _ _ (l .inv .0))) e in
-    let m = wrote-lent (l .inv .5 .wrote) (recordsIn (readTree s (a .depth) (answerOf (l .tok)))) _ _ (k .2) (omega (arith, k .3, l .inv .5 .wrote .within)) (name-written _ (a .depth) _ _ _ _ (l .inv .0) (h .0) (h .1) (h .2) _ _ (c .before .before .name .ensures)) in
-    (q .lexes, omega (arith, q .on, l .inv .1), omega (arith, m .within, wrote-length m), wrote-length m,
-    l .inv .4 ∙ items-turn _ _ (l .n) (l .size) _ _ (omega (arith, l .inv .1, place-top _ _ (l .inv .0))) e, more-left (l .inv .5) (recordsIn (readTree s (a .depth) (answerOf (l .tok)))) _ m (k .1) (k .0))
+    let m = wrote-lent (l .inv .5 .wrote) (recordsIn (readTree s (a .depth) (answerOf (l .tok)))) _ _ (k .2) (omega (arith, k .3, l .inv .5 .wrote .within)) (name-written _ (a .depth) _ _ _ _ (l .inv .0) (h .0) (h .1) (h .2) _ _ (c .before .before .name .ensures)) in (
+      q .lexes,
+      omega (arith, q .on, l .inv .1),
+      omega (arith, m .within, wrote-length m),
+      wrote-length m,
+      l .inv .4 ∙ items-turn _ _ (l .n) (l .size) _ _ (omega (arith, l .inv .1, place-top _ _ (l .inv .0))) e,
+      more-left (l .inv .5) (recordsIn (readTree s (a .depth) (answerOf (l .tok)))) _ m (k .1) (k .0),
+    )
 
 write-items-enum-known-seen-3 : (t : ℕ) → write-items-lts.Need-enum-known-seen-3 (write-items-calls t) (write-items-at t) write-items.Post write-items-Inv-loop write-items-μ-loop
 write-items-enum-known-seen-3 t c = search needs
@@ -407,9 +412,14 @@ write-items-loop-again-2 t c =
     let e = list-seen-got _ (a .depth) _ _ _ h (i .before .if1 .left) (i .next-token .ensures) _ _ _ _ _ (w .write-list .ensures .0) (c .before .before .items2 .given .1) (c .next-token2 .ensures) in
     let q = one-spans _ _ _ _ _ (l .inv .0) e in
     let k = item-took _ (length s) (l .n) _ _ _ _ (l .inv .5 .room) (omega (arith, l .inv .1, place-top _ _ (l .inv .0))) e in
-    let m = wrote-lent (l .inv .5 .wrote) (recordsIn (readTree s (a .depth) (answerOf (l .tok)))) _ _ (k .2) (omega (arith, k .3, l .inv .5 .wrote .within)) (paren-written _ (a .depth) _ _ _ h (i .before .if1 .left) (i .next-token .ensures) _ _ (next-room _ (length s) (l .n) _ (l .inv .5) (omega (arith, l .inv .1, place-top _ _ (l .inv .0)))) (w .write-list .ensures .1)) in
-    (q .lexes, omega (arith, q .on, l .inv .1), omega (arith, m .within, wrote-length m), wrote-length m,
-    l .inv .4 ∙ items-turn _ _ (l .n) (l .size) _ _ (omega (arith, l .inv .1, place-top _ _ (l .inv .0))) e, more-left (l .inv .5) (recordsIn (readTree s (a .depth) (answerOf (l .tok)))) _ m (k .1) (k .0))
+    let m = wrote-lent (l .inv .5 .wrote) (recordsIn (readTree s (a .depth) (answerOf (l .tok)))) _ _ (k .2) (omega (arith, k .3, l .inv .5 .wrote .within)) (paren-written _ (a .depth) _ _ _ h (i .before .if1 .left) (i .next-token .ensures) _ _ (next-room _ (length s) (l .n) _ (l .inv .5) (omega (arith, l .inv .1, place-top _ _ (l .inv .0)))) (w .write-list .ensures .1)) in (
+      q .lexes,
+      omega (arith, q .on, l .inv .1),
+      omega (arith, m .within, wrote-length m),
+      wrote-length m,
+      l .inv .4 ∙ items-turn _ _ (l .n) (l .size) _ _ (omega (arith, l .inv .1, place-top _ _ (l .inv .0))) e,
+      more-left (l .inv .5) (recordsIn (readTree s (a .depth) (answerOf (l .tok)))) _ m (k .1) (k .0),
+    )
 
 write-items-enum-told-2 : (t : ℕ) → write-items-lts.Need-enum-told-2 (write-items-calls t) (write-items-at t) write-items.Post write-items-Inv-loop write-items-μ-loop
 write-items-enum-told-2 t c = search needs
@@ -550,9 +560,14 @@ write-items-loop-again-3 t c =
     let e = told _ _ (w .write-tree .ensures .0) (c .before .one3 .given .1) in
     let q = one-spans _ _ _ _ _ (l .inv .0) e in
     let k = item-took _ (length s) (l .n) _ _ _ _ (l .inv .5 .room) (omega (arith, l .inv .1, place-top _ _ (l .inv .0))) e in
-    let m = wrote-lent (l .inv .5 .wrote) (recordsIn (readTree s (a .depth) (answerOf (l .tok)))) _ _ (k .2) (omega (arith, k .3, l .inv .5 .wrote .within)) (w .write-tree .ensures .1) in
-    (q .lexes, omega (arith, q .on, l .inv .1), omega (arith, m .within, wrote-length m), wrote-length m,
-    l .inv .4 ∙ items-turn _ _ (l .n) (l .size) _ _ (omega (arith, l .inv .1, place-top _ _ (l .inv .0))) e, more-left (l .inv .5) (recordsIn (readTree s (a .depth) (answerOf (l .tok)))) _ m (k .1) (k .0))
+    let m = wrote-lent (l .inv .5 .wrote) (recordsIn (readTree s (a .depth) (answerOf (l .tok)))) _ _ (k .2) (omega (arith, k .3, l .inv .5 .wrote .within)) (w .write-tree .ensures .1) in (
+      q .lexes,
+      omega (arith, q .on, l .inv .1),
+      omega (arith, m .within, wrote-length m),
+      wrote-length m,
+      l .inv .4 ∙ items-turn _ _ (l .n) (l .size) _ _ (omega (arith, l .inv .1, place-top _ _ (l .inv .0))) e,
+      more-left (l .inv .5) (recordsIn (readTree s (a .depth) (answerOf (l .tok)))) _ m (k .1) (k .0),
+    )
 
 write-list-sub-write-items : (t : ℕ) → write-list-lts.Need-sub-write-items (write-list-calls t) (write-list-at t) write-list.Post
 write-list-sub-write-items t c = search needs
@@ -585,10 +600,11 @@ write-list-returns t c =
     let w = c .before .before in
     let o = w .before .before in
     let i = o .before .before .before in
-    let a = i .before .before .before .before in
-    (i .write-items .ensures .0,
-    list-front (readItems (readTree (a .args .src .now) (a .args .depth)) (suc (length (a .args .src .now))) (answerOf (a .args .first))) _ _ (a .args .buf .now) _ _ (a .pre .1 .1)
-    (i .write-items .ensures .0) (o .count-of .ensures) (i .write-items .ensures .1) (w .list .ensures))
+    let a = i .before .before .before .before in (
+      i .write-items .ensures .0,
+      list-front (readItems (readTree (a .args .src .now) (a .args .depth)) (suc (length (a .args .src .now))) (answerOf (a .args .first))) _ _ (a .args .buf .now) _ _ (a .pre .1 .1)
+          (i .write-items .ensures .0) (o .count-of .ensures) (i .write-items .ensures .1) (w .list .ensures),
+    )
 
 write-tree-enum-told : (t : ℕ) → write-tree-lts.Need-enum-told (write-tree-calls t) (write-tree-at t) write-tree.Post
 write-tree-enum-told t c = search needs
@@ -902,9 +918,10 @@ write-tree-returns-8 t c =
     let a = k .before .before .before .before .before in
     let e = k .before .tok2 .given .1 in
     let f = n .before .before .enum-told4 .given .1 in
-    let o = hand (a .args .src .now) _ _ _ _ e f in
-    (listed-size _ _ _ _ _ e _ _ _ f (n .before .if1 .left) (n .next-token2 .ensures) (i .write-list .ensures .0) (c .listed .ensures),
-    paren-written _ _ _ _ _ o (n .before .if1 .left) (n .next-token2 .ensures) (a .args .buf .now) _ (a .pre .1 .1) (i .write-list .ensures .1))
+    let o = hand (a .args .src .now) _ _ _ _ e f in (
+      listed-size _ _ _ _ _ e _ _ _ f (n .before .if1 .left) (n .next-token2 .ensures) (i .write-list .ensures .0) (c .listed .ensures),
+      paren-written _ _ _ _ _ o (n .before .if1 .left) (n .next-token2 .ensures) (a .args .buf .now) _ (a .pre .1 .1) (i .write-list .ensures .1),
+    )
 
 write-tree-same-length-3 : (t : ℕ) → write-tree-lts.Need-same-length-3 (write-tree-calls t) (write-tree-at t) write-tree.Post
 write-tree-same-length-3 t c = search needs
