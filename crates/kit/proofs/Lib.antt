@@ -1,0 +1,4 @@
+-- The laws behind the words.
+pub mod Answers
+pub mod Told
+pub mod Packed
