@@ -2,3 +2,4 @@ pub mod Runs
 pub mod Comments
 pub mod Digits
 pub mod Starts
+pub mod Within

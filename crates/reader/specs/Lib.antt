@@ -1,2 +1,4 @@
 pub mod Grammar
 pub mod Reading
+pub mod Sizes
+pub mod Cases

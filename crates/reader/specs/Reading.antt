@@ -8,8 +8,8 @@ use Rattle.refusals.specs.Numbers.{tableRoom}
 use Rattle.lists.specs.Over.{fitted}
 use Rattle.table.specs.Trees.{recordsOf}
 use Rattle.reader.specs.Grammar.{File, file, refusal, fileOf}
-use Rattle.reader.specs.declared.Read.{Read as CodeRead}
-use Rattle.reader.specs.declared.Read.the-variants as code
+use Rattle.reader.specs.declared.Readout.{Readout}
+use Rattle.reader.specs.declared.Readout.the-variants as code
 
 -- the table's length, or a refusal's number and place
 pub data Read : Type 0 where
@@ -34,6 +34,6 @@ unfoldable pub readInto : List ℕ → List ℕ → List ℕ
 readInto s b = leaves (fileOf s) b
 
 -- document 01's number and values for each case of the answer's enum
-abbrev pub readOf : CodeRead → Read
+abbrev pub readOf : Readout → Read
 readOf (code.Table n) = table n
 readOf (code.Refused r) = no (r .number) (r .place)

@@ -1,0 +1,10 @@
+pub mod Putting
+pub mod Answers
+pub mod Derived
+pub mod Bounds
+pub mod Trees
+pub mod Sized
+pub mod Arms
+pub mod Written
+pub mod Rooms
+pub mod Files
