@@ -1,0 +1,10 @@
+pub mod Founds
+pub mod Goings
+pub mod Singles
+pub mod Entries
+pub mod Dues
+pub mod Rooms
+pub mod Spaces
+pub mod Bounds
+pub mod Laying
+pub mod Pages
