@@ -1,4 +1,4 @@
-//! Tells rustc where the static library is: TULBAZHIK_LIB, or the folder that `rt staticlib kit` writes to.
+//! Tells rustc where the static libraries are: TULBAZHIK_LIB, or the folder that `rt staticlib` writes to.
 
 use std::path::PathBuf;
 
@@ -8,7 +8,9 @@ fn main() {
         Some(folder) => PathBuf::from(folder),
         None => PathBuf::from(env!("CARGO_MANIFEST_DIR")).join("../../target/staticlib"),
     };
-    println!("cargo::rerun-if-changed={}", folder.join("libkit.a").display());
     println!("cargo::rustc-link-search=native={}", folder.display());
-    println!("cargo::rustc-link-lib=static=kit");
+    for name in ["kit", "kit_trees"] {
+        println!("cargo::rerun-if-changed={}", folder.join(format!("lib{name}.a")).display());
+        println!("cargo::rustc-link-lib=static={name}");
+    }
 }

@@ -1,4 +1,5 @@
-// The kit's door: the proved functions under C names, over numbers, slices and small arrays of words (host/include/tulbazhik.h).
+// The kit's door to lexing and feeding: the proved functions under C names, over numbers, slices and small arrays of words (host/include/tulbazhik.h).
+// Reading and printing have a crate and an archive of their own, so that here the lexer has one caller and the compiler merges the two.
 pub mod states;
 pub mod words;
 
