@@ -8,14 +8,17 @@ use crate::printer::SExpr;
 const LIMIT: usize = 1_048_576;
 const PART: usize = 65_536;
 
-/// Writes the input and its part: of a file, or of generated text where there is no file's name.
-pub fn write(from: &str, whole: &str, part: &str) -> Result<(), String> {
+/// Writes the input, its part, and the part as often as it goes into the limit, so that growth compares like with like.
+/// The input is a file's, or generated where there is no file's name.
+pub fn write(from: &str, folder: &str) -> Result<(), String> {
     let text = match from {
         "" => generate::text(LIMIT),
         file => std::fs::read_to_string(file).map_err(|error| format!("{file}: {error}"))?,
     };
-    for (to, most) in [(whole, LIMIT), (part, PART)] {
-        std::fs::write(to, front(&text, most)?).map_err(|error| format!("{to}: {error}"))?;
+    let part = front(&text, PART)?;
+    let grown = part.repeat(LIMIT / part.len().max(1));
+    for (name, text) in [("whole", front(&text, LIMIT)?), ("part", part), ("grown", &grown)] {
+        std::fs::write(format!("{folder}/{name}"), text).map_err(|error| format!("{folder}: {error}"))?;
     }
     Ok(())
 }

@@ -30,6 +30,9 @@ mod printer;
 #[allow(dead_code)]
 mod rng;
 
+#[path = "../../host/rust/src/ffi.rs"]
+#[allow(dead_code)]
+mod ffi;
 mod generate;
 mod input;
 mod measured;
@@ -44,7 +47,7 @@ fn main() -> ExitCode {
     let words: Vec<String> = std::env::args().skip(1).collect();
     let words: Vec<&str> = words.iter().map(String::as_str).collect();
     let done = match words[..] {
-        ["input", from, whole, part] => input::write(from, whole, part),
+        ["input", from, folder] => input::write(from, folder),
         ["names"] => measured::names(),
         ["all", file] => measured::all(file),
         ["one", name, file] => measured::one(name, file, true),

@@ -4,8 +4,7 @@ use std::hint::black_box;
 use std::panic::{AssertUnwindSafe, catch_unwind};
 use std::time::{Duration, Instant};
 
-use tulbazhik::{Answer, Feeder};
-
+use crate::ffi;
 use crate::input::{self, Tree};
 use crate::lexer::Lexer;
 use crate::printer::{SExpr, ToSExpr, print_node};
@@ -101,7 +100,24 @@ pub fn print_by_crate(trees: &[SExpr], width: u32, out: &mut Vec<u8>) {
     }
 }
 
+/// The library's own function, as a host in C calls it.
 fn lex_kit(job: &mut Job) -> usize {
+    let (source, mut at, mut words) = (job.text.as_bytes(), 0, [0; 5]);
+    loop {
+        // SAFETY: the pointer and the length are a slice's, and the words are this function's own.
+        unsafe { ffi::tulbazhik_next_token(source.as_ptr(), source.len(), at, &mut words) };
+        let [kind, start, len, _, _] = *black_box(&words);
+        match kind {
+            1..=5 => at = (start + len) as usize,
+            _ => break,
+        }
+    }
+    assert_eq!(words[0], 0, "the input lexes");
+    job.text.len()
+}
+
+/// The same by the wrapper's iterator.
+fn lex_wrapper(job: &mut Job) -> usize {
     for token in tulbazhik::tokens(job.text.as_bytes()) {
         black_box(token.expect("the input lexes"));
     }
@@ -117,20 +133,24 @@ fn lex_crate(job: &mut Job) -> usize {
 }
 
 fn feed(job: &mut Job, size: usize) -> usize {
-    let mut feeder = Feeder::new();
+    let (mut state, mut words) = ([0; 8], [0; 6]);
     for piece in job.text.as_bytes().chunks(size) {
         let mut rest = piece;
         while !rest.is_empty() {
-            let (used, answer) = feeder.feed(rest);
-            assert!(!matches!(answer, Answer::Refused(_)), "the input lexes");
-            black_box(answer);
-            rest = &rest[used..];
+            // SAFETY: the pointer and the length are a slice's, and the state and the words are this function's own.
+            unsafe { ffi::tulbazhik_feed(&mut state, rest.as_ptr(), rest.len(), &mut words) };
+            let [kind, _, _, _, _, used] = *black_box(&words);
+            assert!(kind != 6, "the input lexes");
+            rest = &rest[used as usize..];
         }
     }
-    while let Answer::Token(token) = feeder.close() {
-        black_box(token);
+    loop {
+        // SAFETY: as above.
+        unsafe { ffi::tulbazhik_close(&mut state, &mut words) };
+        if black_box(&words)[0] == 0 {
+            return job.text.len();
+        }
     }
-    job.text.len()
 }
 
 fn read_kit(job: &mut Job) -> usize {
@@ -165,6 +185,7 @@ macro_rules! measured {
 
 measured! {
     bench_lex_kit = lex_kit;
+    bench_lex_wrapper_kit = lex_wrapper;
     bench_lex_crate = lex_crate;
     bench_feed_16_kit = |job| feed(job, 16);
     bench_feed_512_kit = |job| feed(job, 512);

@@ -19,6 +19,7 @@ const fn row(title: &'static str, kit: &'static str, beside: &'static str, note:
 
 const ROWS: &[Row] = &[
     row("lexing", "bench_lex_kit", "bench_lex_crate", ""),
+    row("lexing, by the wrapper", "bench_lex_wrapper_kit", "bench_lex_crate", ""),
     row("feeding, pieces of 16", "bench_feed_16_kit", "bench_lex_crate", "the crate's lexing"),
     row("feeding, pieces of 512", "bench_feed_512_kit", "bench_lex_crate", "the crate's lexing"),
     row("feeding, pieces of 65536", "bench_feed_65536_kit", "bench_lex_crate", "the crate's lexing"),
@@ -37,10 +38,16 @@ const ROWS: &[Row] = &[
 pub fn table(folder: &str) -> Result<(), String> {
     let whole = lines(&format!("{folder}/whole.counts"))?;
     let part = lines(&format!("{folder}/part.counts"))?;
+    let grown = lines(&format!("{folder}/grown.counts"))?;
     let times = lines(&format!("{folder}/whole.times")).unwrap_or_default();
     let program = lines(&format!("{folder}/program.counts")).unwrap_or_default();
     let bytes = |lines: &Lines| lines.get("bench_lex_kit").map_or(0.0, |found| found[0]);
-    println!("input {} bytes, growth from its first {} bytes", bytes(&whole), bytes(&part));
+    println!(
+        "input {} bytes; growth from its first {} bytes to {} bytes of the same",
+        bytes(&whole),
+        bytes(&part),
+        bytes(&grown)
+    );
     println!("instructions and nanoseconds per byte of the source, or of the output where it says so\n");
     println!(
         "{:<27} {:>7} {:>7} {:>6} {:>7} {:>8} {:>8}  {}",
@@ -48,7 +55,7 @@ pub fn table(folder: &str) -> Result<(), String> {
     );
     for Row { title, kit, beside, note } in ROWS {
         let (ours, theirs) = (per_byte(&whole, kit)?, per_byte(&whole, beside)?);
-        let growth = (ours / per_byte(&part, kit)? - 1.0) * 100.0;
+        let growth = (per_byte(&grown, kit)? / per_byte(&part, kit)? - 1.0) * 100.0;
         let time = |name: &str| {
             let (spent, count) = (times.get(name), whole.get(name));
             spent.zip(count).map_or("-".to_string(), |(spent, count)| format!("{:.2}", spent[0] / count[0]))

@@ -1,5 +1,6 @@
 /* Tulbazhik's proved functions for C: lexing, feeding, reading and printing of ISLE rule files.
-   Link libkit.a and libkit_trees.a, which `rt staticlib kit` and `rt staticlib kit_trees` write for x86-64.
+   Link libkit.a (lexing), libkit_feed.a (feeding) and libkit_trees.a (reading, printing), as many of them as are used;
+   `rt staticlib NAME` writes each for x86-64.
 
    Each function is proved to meet its contract on every input, to stay within what it is lent, and to return. No pointer is
    checked, so these are the caller's duties:

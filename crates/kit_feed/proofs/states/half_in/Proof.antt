@@ -1,8 +1,8 @@
--- `kit::states::half_in`: a line for each word.
+-- `kit_feed::states::half_in`: a line for each word.
 use borrow.Author.Needs.{needs}
 use borrow.Author.Tests.{eq-eqb, ne-eqb, lt-ltb, le-ltb, lt-leb, le-leb}
-use Rattle.kit.proofs.states.half_in.Statement.{statement}
-use Rattle.kit.proofs.states.half_in.Tie as tie
+use Rattle.kit_feed.proofs.states.half_in.Statement.{statement}
+use Rattle.kit_feed.proofs.states.half_in.Tie as tie
 
 returns : tie.Need-returns
 returns c = search (needs, eq-eqb, ne-eqb, lt-ltb, le-ltb, lt-leb, le-leb)

@@ -7,7 +7,7 @@ use lexer::literal::Reading;
 use refusals::Refusal;
 use wide::Limbs;
 ghost use mathlib.Core.Path.{_≡_};
-ghost use Rattle.kit.specs.States.{packDigits, packMode, packOf, halfIn, flagIn, readingIn, modeIn, phaseIn, unpackOf, halfWord, bit};
+ghost use Rattle.kit_feed.specs.States.{packDigits, packMode, packOf, halfIn, flagIn, readingIn, modeIn, phaseIn, unpackOf, halfWord, bit};
 
 fn half_word(h: Half) -> u64
     ensures { λ r. ⌜ r ≡ halfWord h ⌝ }

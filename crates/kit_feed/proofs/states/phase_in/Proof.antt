@@ -1,9 +1,9 @@
--- `kit::states::phase_in`: a tag of a mode, the closed one, or any other.
+-- `kit_feed::states::phase_in`: a tag of a mode, the closed one, or any other.
 use borrow.Author.Tests.{eq-eqb, ne-eqb, lt-ltb, le-ltb, lt-leb, le-leb}
-use Rattle.kit.specs.States.{phaseIn}
+use Rattle.kit_feed.specs.States.{phaseIn}
 use borrow.Author.Needs.{needs}
-use Rattle.kit.proofs.states.phase_in.Statement.{statement}
-use Rattle.kit.proofs.states.phase_in.Tie as tie
+use Rattle.kit_feed.proofs.states.phase_in.Statement.{statement}
+use Rattle.kit_feed.proofs.states.phase_in.Tie as tie
 
 mode-in-requires : tie.Need-mode-in-requires
 mode-in-requires c κs = search needs

@@ -1,8 +1,8 @@
--- `kit::states::pack_digits`: a line for each reading.
+-- `kit_feed::states::pack_digits`: a line for each reading.
 use mathlib.Core.Path.{refl}
 use borrow.Author.Needs.{needs}
-use Rattle.kit.proofs.states.pack_digits.Statement.{statement}
-use Rattle.kit.proofs.states.pack_digits.Tie as tie
+use Rattle.kit_feed.proofs.states.pack_digits.Statement.{statement}
+use Rattle.kit_feed.proofs.states.pack_digits.Tie as tie
 
 enum-told : tie.Need-enum-told
 enum-told c = search needs

@@ -1,8 +1,8 @@
--- `kit::tulbazhik_fresh`: the words of the fresh state.
+-- `kit_feed::tulbazhik_fresh`: the words of the fresh state.
 use mathlib.Core.Path.{refl}
 use borrow.Author.Needs.{needs}
-use Rattle.kit.proofs.tulbazhik_fresh.Statement.{statement}
-use Rattle.kit.proofs.tulbazhik_fresh.Tie as tie
+use Rattle.kit_feed.proofs.tulbazhik_fresh.Statement.{statement}
+use Rattle.kit_feed.proofs.tulbazhik_fresh.Tie as tie
 
 fresh-requires : tie.Need-fresh-requires
 fresh-requires c κs = search needs

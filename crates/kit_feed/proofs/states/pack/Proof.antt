@@ -1,9 +1,9 @@
--- `kit::states::pack`: a line for each phase.
+-- `kit_feed::states::pack`: a line for each phase.
 use mathlib.Core.Path.{refl}
-use Rattle.kit.specs.States.{packOf}
+use Rattle.kit_feed.specs.States.{packOf}
 use borrow.Author.Needs.{needs}
-use Rattle.kit.proofs.states.pack.Statement.{statement}
-use Rattle.kit.proofs.states.pack.Tie as tie
+use Rattle.kit_feed.proofs.states.pack.Statement.{statement}
+use Rattle.kit_feed.proofs.states.pack.Tie as tie
 
 enum-known-phase : tie.Need-enum-known-phase
 enum-known-phase c = search needs

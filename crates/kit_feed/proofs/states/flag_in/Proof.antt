@@ -1,8 +1,8 @@
--- `kit::states::flag_in`: 0 or not.
+-- `kit_feed::states::flag_in`: 0 or not.
 use borrow.Author.Needs.{needs}
 use borrow.Author.Tests.{eq-eqb, ne-eqb, lt-ltb, le-ltb, lt-leb, le-leb}
-use Rattle.kit.proofs.states.flag_in.Statement.{statement}
-use Rattle.kit.proofs.states.flag_in.Tie as tie
+use Rattle.kit_feed.proofs.states.flag_in.Statement.{statement}
+use Rattle.kit_feed.proofs.states.flag_in.Tie as tie
 
 returns : tie.Need-returns
 returns c = search (needs, eq-eqb, ne-eqb, lt-ltb, le-ltb, lt-leb, le-leb)

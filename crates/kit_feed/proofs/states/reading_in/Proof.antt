@@ -1,9 +1,9 @@
--- `kit::states::reading_in`: a line for each word.
+-- `kit_feed::states::reading_in`: a line for each word.
 use borrow.Author.Needs.{needs}
 use borrow.Author.Tests.{eq-eqb, ne-eqb, lt-ltb, le-ltb, lt-leb, le-leb}
-use Rattle.kit.specs.States.{readingIn}
-use Rattle.kit.proofs.states.reading_in.Statement.{statement}
-use Rattle.kit.proofs.states.reading_in.Tie as tie
+use Rattle.kit_feed.specs.States.{readingIn}
+use Rattle.kit_feed.proofs.states.reading_in.Statement.{statement}
+use Rattle.kit_feed.proofs.states.reading_in.Tie as tie
 
 returns : tie.Need-returns
 unfolding readingIn

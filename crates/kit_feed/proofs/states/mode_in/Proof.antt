@@ -1,9 +1,9 @@
--- `kit::states::mode_in`: a line for each tag.
+-- `kit_feed::states::mode_in`: a line for each tag.
 use borrow.Author.Tests.{eq-eqb, ne-eqb, lt-ltb, le-ltb, lt-leb, le-leb}
-use Rattle.kit.specs.States.{modeIn}
+use Rattle.kit_feed.specs.States.{modeIn}
 use borrow.Author.Needs.{needs}
-use Rattle.kit.proofs.states.mode_in.Statement.{statement}
-use Rattle.kit.proofs.states.mode_in.Tie as tie
+use Rattle.kit_feed.proofs.states.mode_in.Statement.{statement}
+use Rattle.kit_feed.proofs.states.mode_in.Tie as tie
 
 returns : tie.Need-returns
 unfolding modeIn

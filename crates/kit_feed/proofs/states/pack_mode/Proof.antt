@@ -1,8 +1,8 @@
--- `kit::states::pack_mode`: a line for each mode.
+-- `kit_feed::states::pack_mode`: a line for each mode.
 use mathlib.Core.Path.{refl}
 use borrow.Author.Needs.{needs}
-use Rattle.kit.proofs.states.pack_mode.Statement.{statement}
-use Rattle.kit.proofs.states.pack_mode.Tie as tie
+use Rattle.kit_feed.proofs.states.pack_mode.Statement.{statement}
+use Rattle.kit_feed.proofs.states.pack_mode.Tie as tie
 
 enum-told : tie.Need-enum-told
 enum-told c = search needs

@@ -12,7 +12,7 @@ use Rattle.feeder.specs.declared.Mode.the-variants.{Blank, Line, Opener, Symbol
 use Rattle.feeder.specs.declared.Phase.{Phase}
 use Rattle.feeder.specs.declared.Phase.the-variants.{Live, Closed, Refused}
 use Rattle.feeder.specs.declared.State.{State}
-use Rattle.kit.specs.States.{packOf, packPhase, unpackOf, readingIn, modeIn, phaseIn}
+use Rattle.kit_feed.specs.States.{packOf, packPhase, unpackOf, readingIn, modeIn, phaseIn}
 
 -- a radix and a refusal's number are a byte
 abbrev pub ModeFits : Mode → Type 0

@@ -1,9 +1,9 @@
--- `kit::states::unpack`: the words by their places.
+-- `kit_feed::states::unpack`: the words by their places.
 use mathlib.Core.Path.{refl}
-use Rattle.kit.specs.States.{unpackOf}
+use Rattle.kit_feed.specs.States.{unpackOf}
 use borrow.Author.Needs.{needs}
-use Rattle.kit.proofs.states.unpack.Statement.{statement}
-use Rattle.kit.proofs.states.unpack.Tie as tie
+use Rattle.kit_feed.proofs.states.unpack.Statement.{statement}
+use Rattle.kit_feed.proofs.states.unpack.Tie as tie
 
 array-read-reading-in : tie.Need-array-read-reading-in
 array-read-reading-in c = search needs
