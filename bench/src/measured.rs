@@ -106,7 +106,7 @@ fn lex_kit(job: &mut Job) -> usize {
     loop {
         // SAFETY: the pointer and the length are a slice's, and the words are this function's own.
         unsafe { ffi::tulbazhik_next_token(source.as_ptr(), source.len(), at, &mut words) };
-        let [kind, start, len, _, _] = *black_box(&words);
+        let [kind, start, len, _, _] = words;
         match kind {
             1..=5 => at = (start + len) as usize,
             _ => break,
@@ -139,7 +139,7 @@ fn feed(job: &mut Job, size: usize) -> usize {
         while !rest.is_empty() {
             // SAFETY: the pointer and the length are a slice's, and the state and the words are this function's own.
             unsafe { ffi::tulbazhik_feed(&mut state, rest.as_ptr(), rest.len(), &mut words) };
-            let [kind, _, _, _, _, used] = *black_box(&words);
+            let [kind, _, _, _, _, used] = words;
             assert!(kind != 6, "the input lexes");
             rest = &rest[used as usize..];
         }
@@ -147,7 +147,7 @@ fn feed(job: &mut Job, size: usize) -> usize {
     loop {
         // SAFETY: as above.
         unsafe { ffi::tulbazhik_close(&mut state, &mut words) };
-        if black_box(&words)[0] == 0 {
+        if words[0] == 0 {
             return job.text.len();
         }
     }

@@ -136,6 +136,18 @@ fn unsigned_at(src: &[u8], minus: bool, start: usize, at: usize) -> Lexed
     literal::concluded(minus, start, d.end, reading)
 }
 
+// The same answer, taken apart and made anew: without it the answer of a literal, which a call leaves in memory, has the compiler
+// pass every token through memory.
+fn again(l: Lexed) -> Lexed
+    ensures { λ r. ⌜ r ≡ l ⌝ }
+{
+    match l {
+        Lexed::Token(t, start) => Lexed::Token(t, start),
+        Lexed::End => Lexed::End,
+        Lexed::Refused(r) => Lexed::Refused(r),
+    }
+}
+
 // The next token from `at` on: blanks and comments are passed, and the first other byte decides.
 fn lex(src: &[u8], at: usize) -> Lexed
     requires { ⌜ (at ≤ length (now src)) × (length (now src) ≤ sourceLimit) ⌝ }
@@ -177,10 +189,10 @@ fn lex(src: &[u8], at: usize) -> Lexed
                 return refused(refusals::FORM_FEED, i);
             }
             Class::Minus => {
-                return unsigned_at(src, true, i, i + 1);
+                return again(unsigned_at(src, true, i, i + 1));
             }
             Class::Digit => {
-                return unsigned_at(src, false, i, i);
+                return again(unsigned_at(src, false, i, i));
             }
             Class::Other => {
                 let end = symbol_end(src, i + 1);

@@ -177,8 +177,13 @@ add-unsigned-at c = omega arith
 unsigned-at-requires : tie.Need-unsigned-at-requires Inv-loop μ-loop
 unsigned-at-requires c κs = (omega arith, omega arith)
 
+again-requires : tie.Need-again-requires Inv-loop μ-loop
+again-requires c κs = tt
+
 returns-6 : tie.Need-returns-6 Inv-loop μ-loop
-returns-6 c = let a = c .before .before .before in c .unsigned-at .ensures ∙ sym (lex-minus (S a) (I a) (lt a) (told a ∙ c .before .enum-told9 .given .1)) ∙ kept a
+returns-6 c =
+    let a = c .before .before .before .before in
+    rw (c .again .ensures) (c .before .unsigned-at .ensures ∙ sym (lex-minus (S a) (I a) (lt a) (told a ∙ c .before .before .enum-told9 .given .1)) ∙ kept a)
 
 enum-told-10 : tie.Need-enum-told-10 Inv-loop μ-loop
 enum-told-10 c = search needs
@@ -186,8 +191,13 @@ enum-told-10 c = search needs
 unsigned-at-requires-2 : tie.Need-unsigned-at-requires-2 Inv-loop μ-loop
 unsigned-at-requires-2 c κs = (omega arith, omega arith)
 
+again-requires-2 : tie.Need-again-requires-2 Inv-loop μ-loop
+again-requires-2 c κs = tt
+
 returns-7 : tie.Need-returns-7 Inv-loop μ-loop
-returns-7 c = let a = c .before .before .before in c .unsigned-at2 .ensures ∙ sym (lex-digit (S a) (I a) (lt a) (told a ∙ c .before .enum-told10 .given .1)) ∙ kept a
+returns-7 c =
+    let a = c .before .before .before .before in
+    rw (c .again2 .ensures) (c .before .unsigned-at2 .ensures ∙ sym (lex-digit (S a) (I a) (lt a) (told a ∙ c .before .before .enum-told10 .given .1)) ∙ kept a)
 
 enum-told-11 : tie.Need-enum-told-11 Inv-loop μ-loop
 enum-told-11 c = search needs
@@ -198,8 +208,8 @@ add-symbol-end c = omega arith
 symbol-end-requires : tie.Need-symbol-end-requires Inv-loop μ-loop
 symbol-end-requires c κs = tt
 
-sub-t20 : tie.Need-sub-t20 Inv-loop μ-loop
-sub-t20 c = omega (arith, c .symbol-end .ensures .0)
+sub-t22 : tie.Need-sub-t22 Inv-loop μ-loop
+sub-t22 c = omega (arith, c .symbol-end .ensures .0)
 
 returns-8 : tie.Need-returns-8 Inv-loop μ-loop
 returns-8 c = let a = c .before .before .before in rw (c .symbol-end .ensures .1) (sym (lex-other (S a) (I a) (lt a) (told a ∙ c .before .enum-told11 .given .1)) ∙ kept a)
@@ -250,13 +260,15 @@ lex-spec =
     enum-told-9
     add-unsigned-at
     unsigned-at-requires
+    again-requires
     returns-6
     enum-told-10
     unsigned-at-requires-2
+    again-requires-2
     returns-7
     enum-told-11
     add-symbol-end
     symbol-end-requires
-    sub-t20
+    sub-t22
     returns-8
     returns-9)
