@@ -81,10 +81,6 @@ module _ (q : List ℕ) (p i : ℕ) (m : Mode) where
     pub call-ends : (x : Lexed) (a : Answer) → answerOf x ≡ a → turn m (p + i) (getD q i 0) ≡ ends a → call q p i m ≡ moved q p (endedOf x i)
     call-ends x a f e = below ∙ ap turned (e ∙ ap ends (sym f)) ∙ ends-on x
 
--- two modes that a byte turns alike leave the same of the call
-pub same-turn : (q : List ℕ) (p i : ℕ) (m k : Mode) → i < length q → p + i < sourceLimit → turn m (p + i) (getD q i 0) ≡ turn k (p + i) (getD q i 0) → call q p i m ≡ call q p i k
-same-turn q p i m k h l e = below q p i m h l ∙ ap (turned q p i m) e ∙ sym (below q p i k h l)
-
 -- what is held ends where the run is
 pub ended-stops : (x : Lexed) (j stop i : ℕ) → j ≤ stop → Further i stop (endedOf x j)
 ended-stops (lexed.Token t st) j stop i h = h

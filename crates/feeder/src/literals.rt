@@ -93,22 +93,28 @@ pub fn in_digits(
     )
 }
 
-// After a literal's leading `0`: a prefix, or a digit like any other.
-pub fn in_zero(
-    piece: &[u8],
-    place: usize,
-    i: usize,
-    stop: usize,
-    start: usize,
-    minus: bool,
-) -> Moved
+// After a literal's leading `0`: a prefix, or a digit like any other. One byte and no run, so that the compiler sees one call of
+// in_digits and keeps every run in registers.
+pub fn in_zero(piece: &[u8], place: usize, i: usize, stop: usize, start: usize, minus: bool) -> Moved
     requires { ⌜ Span (now piece) place i stop ⌝ }
     ensures { λ r. ⌜ Further i stop r × (moved (now (piece .entry)) place r ≡ call (now (piece .entry)) place i (Zero start minus)) ⌝ }
 {
-    let radix = lexer::literal::radix_of(48, piece[i]);
-    let zero = Reading::Number(Limbs { hi: 0, lo: 0 });
+    let b = piece[i];
+    let radix = lexer::literal::radix_of(48, b);
     if radix == 10 {
-        return in_digits(piece, place, i, stop, start, minus, 10, zero);
+        let zero = Reading::Number(Limbs { hi: 0, lo: 0 });
+        if classes::is_literal_byte(b) {
+            return Moved::On(
+                Mode::Digits {
+                    start,
+                    minus,
+                    radix: 10,
+                    reading: lexer::literal::grow(10, zero, b),
+                },
+                i + 1,
+            );
+        }
+        return ended(lexer::literal::concluded(minus, start, place + i, zero), i);
     }
     Moved::On(
         Mode::Digits {

@@ -44,7 +44,7 @@ fn as_signed(h: u64) -> i64
 }
 
 // The bits of z.
-fn as_unsigned(z: i64) -> u64
+pub fn as_unsigned(z: i64) -> u64
     ensures { λ r. ⌜ r ≡ ofZ w64 z ⌝ }
 {
     if z < 0 {

@@ -1,0 +1,96 @@
+//! ISLE-like text of any length: rules, declarations and comments, by a fixed seed.
+
+use crate::rng::Rng;
+
+const WORDS: &[&str] = &[
+    "lower",
+    "has_type",
+    "fits_in_64",
+    "iadd",
+    "imm12_from_value",
+    "x64_movzx",
+    "value_array_2",
+    "ty",
+    "x",
+    "y",
+    "_",
+    "$I64",
+    "OperandSize.Size32",
+    "aarch64_uload8",
+    "put_in_reg",
+    "temp_writable_reg",
+    "u64_from_imm64",
+    "cc",
+];
+const COMMENTS: &[&str] = &[
+    ";; Lower the whole pattern where an operand is an immediate that fits.\n",
+    ";; The high half is zero, so a narrower instruction will do.\n",
+    ";;;; Rules for the widening forms ;;;;;;;;;;;;;;;;;;;;;;;;;;;;;;;;;;;;;;;;;\n",
+];
+const NUMBERS: &[&str] = &["0", "1", "-1", "12", "0xff", "0b1_0000", "0xFFFF_FFFF_FFFF_FFFF"];
+
+/// At most `bytes` bytes, as whole trees.
+pub fn text(bytes: usize) -> String {
+    let mut rng = Rng::of(&[1]);
+    let mut text = String::new();
+    loop {
+        let before = text.len();
+        if rng.one_in(3) {
+            text.push_str(rng.pick(COMMENTS));
+        }
+        match rng.below(5) {
+            0 => declaration(&mut text, &mut rng),
+            _ => rule(&mut text, &mut rng),
+        }
+        if text.len() > bytes {
+            text.truncate(before);
+            return text;
+        }
+    }
+}
+
+fn declaration(text: &mut String, rng: &mut Rng) {
+    text.push_str(rng.pick(&["(decl ", "(decl pure partial ", "(extern constructor "]));
+    text.push_str(rng.pick(WORDS));
+    text.push_str(" (");
+    for i in 0..1 + rng.below(4) {
+        if i > 0 {
+            text.push(' ');
+        }
+        text.push_str(rng.pick(&["Type", "Value", "Reg", "u64", "MInst"]));
+    }
+    text.push_str(") Reg)\n\n");
+}
+
+fn rule(text: &mut String, rng: &mut Rng) {
+    text.push_str("(rule ");
+    if rng.one_in(3) {
+        text.push_str(rng.pick(NUMBERS));
+        text.push(' ');
+    }
+    tree(text, 5, rng);
+    text.push_str("\n      ");
+    tree(text, 4, rng);
+    text.push_str(")\n\n");
+}
+
+fn tree(text: &mut String, depth: usize, rng: &mut Rng) {
+    if depth == 0 || rng.one_in(3) {
+        match rng.below(8) {
+            0 => text.push_str(rng.pick(NUMBERS)),
+            1 if depth > 0 => {
+                text.push_str("x @ ");
+                tree(text, depth - 1, rng);
+            }
+            _ => text.push_str(rng.pick(WORDS)),
+        }
+        return;
+    }
+    text.push('(');
+    text.push_str(rng.pick(WORDS));
+    for _ in 0..1 + rng.below(3) {
+        text.push_str(rng.pick(&[" ", " ", " ", "\n          "]));
+        tree(text, depth - 1, rng);
+    }
+    text.push(')');
+}

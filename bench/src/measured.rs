@@ -1,0 +1,244 @@
+//! The measured functions, each kept whole and under a plain name, so that callgrind can be asked for it.
+
+use std::hint::black_box;
+use std::panic::{AssertUnwindSafe, catch_unwind};
+use std::time::{Duration, Instant};
+
+use crate::ffi;
+use crate::input::{self, Tree};
+use crate::lexer::Lexer;
+use crate::printer::{SExpr, ToSExpr, print_node};
+
+/// What the functions work on. All rooms are there and cleared before a function is measured.
+pub struct Job {
+    text: String,
+    room: Vec<u8>,
+    page: Vec<u8>,
+    prints: Vec<Print>,
+}
+
+/// The trees that are printed at a width: those that the crate can print there.
+struct Print {
+    width: u32,
+    trees: Vec<SExpr>,
+    table: Vec<u8>,
+    left_out: usize,
+}
+
+pub const WIDTHS: [u32; 4] = [0, 40, 100, u32::MAX];
+
+impl Job {
+    pub fn new(file: &str, only: Option<&str>) -> Result<Job, String> {
+        let text = std::fs::read_to_string(file).map_err(|error| format!("{file}: {error}"))?;
+        let mut job = Job { text, room: Vec::new(), page: Vec::new(), prints: Vec::new() };
+        let wants = |part: &str| only.is_none_or(|name| name.contains(part));
+        let mut room = 0;
+        if wants("read") {
+            room = tulbazhik::read(job.text.as_bytes()).map_err(|error| error.to_string())?.len();
+        }
+        for width in WIDTHS {
+            if wants(&format!("print_{width}_")) {
+                let print = Print::new(&job.text, width)?;
+                let text = tulbazhik::print(&print.table, width).map_err(|error| error.to_string())?;
+                let mut same = Vec::new();
+                print_by_crate(&print.trees, width, &mut same);
+                if text != same {
+                    return Err(format!("the two sides print other bytes at width {width}"));
+                }
+                room = room.max(text.len());
+                job.prints.push(print);
+            }
+        }
+        job.room = vec![0; room];
+        job.page = vec![0; room];
+        Ok(job)
+    }
+}
+
+impl Print {
+    fn new(text: &str, width: u32) -> Result<Print, String> {
+        let all = input::placed(text)?;
+        let ends: Vec<usize> = all.iter().skip(1).map(|tree| tree.start).chain([text.len()]).collect();
+        let quiet = std::panic::take_hook();
+        std::panic::set_hook(Box::new(|_| {}));
+        let (mut trees, mut source, mut left_out) = (Vec::new(), String::new(), 0);
+        for (Tree { start, tree }, end) in all.into_iter().zip(ends) {
+            let printed = catch_unwind(AssertUnwindSafe(|| {
+                print_by_crate(std::slice::from_ref(&tree), width, &mut Vec::new())
+            }));
+            match printed {
+                Ok(()) => {
+                    source.push_str(&text[start..end]);
+                    trees.push(tree);
+                }
+                Err(_) => left_out += 1,
+            }
+        }
+        std::panic::set_hook(quiet);
+        let table = tulbazhik::read(source.as_bytes()).map_err(|error| error.to_string())?;
+        Ok(Print { width, trees, table, left_out })
+    }
+}
+
+/// A node that gives the tree it holds: `print_node` takes a tree by a clone of it.
+struct Node<'t>(&'t SExpr);
+
+impl ToSExpr for Node<'_> {
+    fn to_sexpr(&self) -> SExpr {
+        self.0.clone()
+    }
+}
+
+/// The framing of the crate's own `print`, which takes its syntax trees alone.
+pub fn print_by_crate(trees: &[SExpr], width: u32, out: &mut Vec<u8>) {
+    for (i, tree) in trees.iter().enumerate() {
+        if i > 0 {
+            out.push(b'\n');
+        }
+        print_node(&Node(tree), width as usize, out).expect("a vector takes every byte");
+        out.push(b'\n');
+    }
+}
+
+/// The library's own function, as a host in C calls it.
+fn lex_kit(job: &mut Job) -> usize {
+    let (source, mut at, mut words) = (job.text.as_bytes(), 0, [0; 5]);
+    loop {
+        // SAFETY: the pointer and the length are a slice's, and the words are this function's own.
+        unsafe { ffi::tulbazhik_next_token(source.as_ptr(), source.len(), at, &mut words) };
+        let [kind, start, len, _, _] = words;
+        match kind {
+            1..=5 => at = (start + len) as usize,
+            _ => break,
+        }
+    }
+    assert_eq!(words[0], 0, "the input lexes");
+    job.text.len()
+}
+
+/// The same by the wrapper's iterator.
+fn lex_wrapper(job: &mut Job) -> usize {
+    for token in tulbazhik::tokens(job.text.as_bytes()) {
+        black_box(token.expect("the input lexes"));
+    }
+    job.text.len()
+}
+
+fn lex_crate(job: &mut Job) -> usize {
+    let mut lexer = Lexer::new(0, &job.text).expect("the input lexes");
+    while let Some(token) = lexer.next().expect("the input lexes") {
+        black_box(token);
+    }
+    job.text.len()
+}
+
+fn feed(job: &mut Job, size: usize) -> usize {
+    let (mut state, mut words) = ([0; 8], [0; 6]);
+    for piece in job.text.as_bytes().chunks(size) {
+        let mut rest = piece;
+        while !rest.is_empty() {
+            // SAFETY: the pointer and the length are a slice's, and the state and the words are this function's own.
+            unsafe { ffi::tulbazhik_feed(&mut state, rest.as_ptr(), rest.len(), &mut words) };
+            let [kind, _, _, _, _, used] = words;
+            assert!(kind != 6, "the input lexes");
+            rest = &rest[used as usize..];
+        }
+    }
+    loop {
+        // SAFETY: as above.
+        unsafe { ffi::tulbazhik_close(&mut state, &mut words) };
+        if words[0] == 0 {
+            return job.text.len();
+        }
+    }
+}
+
+fn read_kit(job: &mut Job) -> usize {
+    black_box(tulbazhik::read_into(job.text.as_bytes(), &mut job.room).expect("the room is enough"));
+    job.text.len()
+}
+
+fn print_kit(job: &mut Job, nth: usize) -> usize {
+    let print = job.prints.iter().find(|print| print.width == WIDTHS[nth]).expect("it was asked for");
+    tulbazhik::print_into(&print.table, print.width, &mut job.room).expect("the room is enough")
+}
+
+fn print_crate(job: &mut Job, nth: usize) -> usize {
+    let print = job.prints.iter().find(|print| print.width == WIDTHS[nth]).expect("it was asked for");
+    job.page.clear();
+    print_by_crate(&print.trees, print.width, &mut job.page);
+    job.page.len()
+}
+
+macro_rules! measured {
+    ($($name:ident = $body:expr;)*) => {
+        $(#[unsafe(no_mangle)]
+        #[inline(never)]
+        fn $name(job: &mut Job) -> usize {
+            let body: fn(&mut Job) -> usize = $body;
+            body(job)
+        })*
+        /// Each by its name; it returns the bytes that its instructions are divided by.
+        pub const ALL: &[(&str, fn(&mut Job) -> usize)] = &[$((stringify!($name), $name)),*];
+    };
+}
+
+measured! {
+    bench_lex_kit = lex_kit;
+    bench_lex_wrapper_kit = lex_wrapper;
+    bench_lex_crate = lex_crate;
+    bench_feed_16_kit = |job| feed(job, 16);
+    bench_feed_512_kit = |job| feed(job, 512);
+    bench_feed_65536_kit = |job| feed(job, 65536);
+    bench_read_kit = read_kit;
+    bench_print_0_kit = |job| print_kit(job, 0);
+    bench_print_40_kit = |job| print_kit(job, 1);
+    bench_print_100_kit = |job| print_kit(job, 2);
+    bench_print_4294967295_kit = |job| print_kit(job, 3);
+    bench_print_0_crate = |job| print_crate(job, 0);
+    bench_print_40_crate = |job| print_crate(job, 1);
+    bench_print_100_crate = |job| print_crate(job, 2);
+    bench_print_4294967295_crate = |job| print_crate(job, 3);
+}
+
+/// Runs each function once, with a line of its name and its bytes.
+pub fn all(file: &str) -> Result<(), String> {
+    let mut job = Job::new(file, None)?;
+    for (name, function) in ALL {
+        println!("{name} {}", function(&mut job));
+    }
+    for print in &job.prints {
+        println!("left_out_{} {}", print.width, print.left_out);
+    }
+    Ok(())
+}
+
+/// Nanoseconds by the fastest of many runs of each function.
+pub fn time(file: &str) -> Result<(), String> {
+    let mut job = Job::new(file, None)?;
+    for (name, function) in ALL {
+        let (mut best, mut spent) = (Duration::MAX, Duration::ZERO);
+        while spent < Duration::from_millis(300) {
+            let start = Instant::now();
+            black_box(function(&mut job));
+            let took = start.elapsed();
+            (best, spent) = (best.min(took), spent + took);
+        }
+        println!("{name} {}", best.as_nanos());
+    }
+    Ok(())
+}
+
+pub fn names() -> Result<(), String> {
+    ALL.iter().for_each(|(name, _)| println!("{name}"));
+    Ok(())
+}
+
+/// One function, or all but its call.
+pub fn one(name: &str, file: &str, call: bool) -> Result<(), String> {
+    let (name, function) = ALL.iter().find(|(known, _)| *known == name).ok_or("no such function")?;
+    let mut job = Job::new(file, Some(name))?;
+    let bytes = if call { function(&mut job) } else { 0 };
+    println!("{name} {bytes}");
+    Ok(())
+}

@@ -1,0 +1,108 @@
+//! The table: what was counted and timed, each of the kit's figures beside the crate's, and the growth with the input.
+
+use std::collections::HashMap;
+
+/// Lines of a name and numbers, as the script writes them.
+type Lines = HashMap<String, Vec<f64>>;
+
+struct Row {
+    title: &'static str,
+    kit: &'static str,
+    /// Whose figure stands beside it, and what of the crate's that is where it is not the same thing.
+    beside: &'static str,
+    note: &'static str,
+}
+
+const fn row(title: &'static str, kit: &'static str, beside: &'static str, note: &'static str) -> Row {
+    Row { title, kit, beside, note }
+}
+
+const ROWS: &[Row] = &[
+    row("lexing", "bench_lex_kit", "bench_lex_crate", ""),
+    row("lexing, by the wrapper", "bench_lex_wrapper_kit", "bench_lex_crate", ""),
+    row("feeding, pieces of 16", "bench_feed_16_kit", "bench_lex_crate", "the crate's lexing"),
+    row("feeding, pieces of 512", "bench_feed_512_kit", "bench_lex_crate", "the crate's lexing"),
+    row("feeding, pieces of 65536", "bench_feed_65536_kit", "bench_lex_crate", "the crate's lexing"),
+    row("reading", "bench_read_kit", "bench_lex_crate", "the crate's lexing"),
+    row("printing, width 0", "bench_print_0_kit", "bench_print_0_crate", "per output byte"),
+    row("printing, width 40", "bench_print_40_kit", "bench_print_40_crate", "per output byte"),
+    row("printing, width 100", "bench_print_100_kit", "bench_print_100_crate", "per output byte"),
+    row(
+        "printing, width 4294967295",
+        "bench_print_4294967295_kit",
+        "bench_print_4294967295_crate",
+        "per output byte",
+    ),
+];
+
+pub fn table(folder: &str) -> Result<(), String> {
+    let whole = lines(&format!("{folder}/whole.counts"))?;
+    let part = lines(&format!("{folder}/part.counts"))?;
+    let grown = lines(&format!("{folder}/grown.counts"))?;
+    let times = lines(&format!("{folder}/whole.times")).unwrap_or_default();
+    let program = lines(&format!("{folder}/program.counts")).unwrap_or_default();
+    let bytes = |lines: &Lines| lines.get("bench_lex_kit").map_or(0.0, |found| found[0]);
+    println!(
+        "input {} bytes; growth from its first {} bytes to {} bytes of the same",
+        bytes(&whole),
+        bytes(&part),
+        bytes(&grown)
+    );
+    println!("instructions and nanoseconds per byte of the source, or of the output where it says so\n");
+    println!(
+        "{:<27} {:>7} {:>7} {:>6} {:>7} {:>8} {:>8}  {}",
+        "", "kit", "crate", "ratio", "growth", "kit ns", "crate ns", "beside"
+    );
+    for Row { title, kit, beside, note } in ROWS {
+        let (ours, theirs) = (per_byte(&whole, kit)?, per_byte(&whole, beside)?);
+        let growth = (per_byte(&grown, kit)? / per_byte(&part, kit)? - 1.0) * 100.0;
+        let time = |name: &str| {
+            let (spent, count) = (times.get(name), whole.get(name));
+            spent.zip(count).map_or("-".to_string(), |(spent, count)| format!("{:.2}", spent[0] / count[0]))
+        };
+        println!(
+            "{title:<27} {ours:>7.1} {theirs:>7.1} {:>6.2} {growth:>6.1}% {:>8} {:>8}  {note}",
+            ours / theirs,
+            time(kit),
+            time(beside)
+        );
+    }
+    if let (Some(isle), Some(by_crate)) = (program.get("isle"), program.get("crate")) {
+        let (ours, theirs) = (isle[1] / isle[0], by_crate[1] / by_crate[0]);
+        println!(
+            "{:<27} {ours:>7.1} {theirs:>7.1} {:>6.2} {:>7} {:>8} {:>8}  on the first {} bytes, whole processes",
+            "the program, end to end",
+            ours / theirs,
+            "-",
+            "-",
+            "-",
+            isle[0]
+        );
+    }
+    let left_out = |width: u32| whole.get(&format!("left_out_{width}")).map_or(0.0, |found| found[0]);
+    for width in crate::measured::WIDTHS.into_iter().filter(|width| left_out(*width) > 0.0) {
+        println!(
+            "width {width}: {} trees left out on both sides, for the crate panics at their empty lists",
+            left_out(width)
+        );
+    }
+    Ok(())
+}
+
+/// Instructions for each of the bytes that the function named.
+fn per_byte(lines: &Lines, name: &str) -> Result<f64, String> {
+    match lines.get(name).map(Vec::as_slice) {
+        Some([bytes, instructions]) => Ok(instructions / bytes),
+        _ => Err(format!("{name} was not counted")),
+    }
+}
+
+fn lines(file: &str) -> Result<Lines, String> {
+    let text = std::fs::read_to_string(file).map_err(|error| format!("{file}: {error}"))?;
+    let line = |line: &str| {
+        let mut words = line.split_whitespace();
+        let name = words.next()?.to_string();
+        Some((name, words.filter_map(|word| word.parse().ok()).collect()))
+    };
+    Ok(text.lines().filter_map(line).collect())
+}

@@ -1,0 +1,3 @@
+-- The laws behind the words.
+pub mod Answers
+pub mod Told

@@ -1,0 +1,2 @@
+-- The law behind the words of a state.
+pub mod Packed

@@ -1,0 +1,116 @@
+//! Refusals: a number and a place, and words for them.
+
+use std::fmt;
+
+/// A refusal. No refusal changes a lent byte.
+///
+/// ```
+/// let source = b"(rule\n  (f 12ab))";
+/// let error = tulbazhik::tokens(source).find_map(Result::err).expect("12ab has a foreign digit");
+/// assert_eq!((error.number, error.place), (6, 11));
+/// assert_eq!(error.to_string(), "refusal 6 at 11: a digit is foreign to the literal's radix");
+/// assert_eq!(
+///     error.within(source).to_string(),
+///     "refusal 6 at line 2, column 6: a digit is foreign to the literal's radix\n  |   (f 12ab))\n  |      ^\n",
+/// );
+/// ```
+#[derive(Clone, Copy, Debug, PartialEq, Eq)]
+pub struct Error {
+    pub number: u8,
+    /// A place in the source or the table; for 1 its limit, for 14 and 18 the bytes needed.
+    pub place: usize,
+}
+
+impl Error {
+    /// What the number says.
+    pub fn meaning(&self) -> &'static str {
+        match self.number {
+            1 => "longer than the limit",
+            2 => "the start is past the source",
+            3 => "a form feed stands where a token should start",
+            4 => "a block comment is still open at the end",
+            5 => "a literal has no digits",
+            6 => "a digit is foreign to the literal's radix",
+            7 => "a literal is above 2^128-1",
+            8 => "a minus stands before 2^127",
+            9 => "`)` with no list open",
+            10 => "a list is still open at the end",
+            11 => "the token before `@` is no symbol",
+            12 => "no tree follows a binding's `@`",
+            13 => "more than 64 lists and bindings are open",
+            14 => "the table needs more room, in bytes",
+            15 => "a bad record, or trees are missing",
+            16 => "a symbol that the lexer would not read as one",
+            17 => "the integer -2^127 has no spelling to print",
+            18 => "the print needs more room, in bytes",
+            19 => "fed after a close",
+            _ => "unknown",
+        }
+    }
+
+    /// The same for a reader who has the source: line, column, and a caret under the place. For refusals of a source, 2 to 13.
+    pub fn within<'s>(&self, source: &'s [u8]) -> Within<'s> {
+        Within { error: *self, source }
+    }
+}
+
+impl fmt::Display for Error {
+    fn fmt(&self, f: &mut fmt::Formatter<'_>) -> fmt::Result {
+        write!(f, "refusal {} at {}: {}", self.number, self.place, self.meaning())
+    }
+}
+
+impl std::error::Error for Error {}
+
+/// A refusal with its source, to be shown; [`Error::within`] makes it.
+#[derive(Clone, Copy, Debug)]
+pub struct Within<'s> {
+    error: Error,
+    source: &'s [u8],
+}
+
+impl Within<'_> {
+    /// The place's line, counted from 1.
+    pub fn line(&self) -> usize {
+        1 + self.source[..self.place()].iter().filter(|byte| **byte == b'\n').count()
+    }
+
+    /// The place's column, counted from 1, in characters.
+    pub fn column(&self) -> usize {
+        1 + self.before().chars().count()
+    }
+
+    fn place(&self) -> usize {
+        self.error.place.min(self.source.len())
+    }
+
+    /// The place where the line begins.
+    fn begin(&self) -> usize {
+        let before = &self.source[..self.place()];
+        before.iter().rposition(|byte| *byte == b'\n').map_or(0, |at| at + 1)
+    }
+
+    fn before(&self) -> String {
+        String::from_utf8_lossy(&self.source[self.begin()..self.place()]).into_owned()
+    }
+}
+
+impl fmt::Display for Within<'_> {
+    fn fmt(&self, f: &mut fmt::Formatter<'_>) -> fmt::Result {
+        let Error { number, .. } = self.error;
+        let rest = &self.source[self.begin()..];
+        let end = rest.iter().position(|byte| *byte == b'\n').unwrap_or(rest.len());
+        let line = String::from_utf8_lossy(&rest[..end]);
+        // a tab is kept, so that the caret stands under its byte however wide a tab is
+        let pad: String = self.before().chars().map(|c| if c == '\t' { c } else { ' ' }).collect();
+        writeln!(
+            f,
+            "refusal {number} at line {}, column {}: {}",
+            self.line(),
+            self.column(),
+            self.error.meaning()
+        )?;
+        writeln!(f, "  | {}", line.trim_end_matches('\r'))?;
+        writeln!(f, "  | {pad}^")
+    }
+}

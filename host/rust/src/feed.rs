@@ -1,0 +1,199 @@
+//! Lexing a source as it comes, in pieces of any size.
+
+use std::fmt;
+use std::io::{self, Read};
+
+use crate::error::Error;
+use crate::ffi;
+use crate::token::{Answer, Token};
+
+/// The state of a source that is fed in pieces: 64 bytes, plain data.
+///
+/// ```
+/// use tulbazhik::{Answer, Feeder, Kind};
+///
+/// let mut feeder = Feeder::new();
+/// assert_eq!(feeder.feed(b"ru"), (2, Answer::More));
+/// let (used, answer) = feeder.feed(b"le)");
+/// assert_eq!(used, 2); // `)` only ends the symbol: it is fed again
+/// let Answer::Token(token) = answer else { panic!() };
+/// assert_eq!((token.kind, token.range()), (Kind::Symbol, 0..4));
+/// assert!(matches!(feeder.feed(b")"), (1, Answer::Token(_))));
+/// assert_eq!(feeder.close(), Answer::End);
+/// ```
+#[derive(Clone, Debug, PartialEq, Eq)]
+pub struct Feeder {
+    state: [u64; 8],
+}
+
+impl Default for Feeder {
+    fn default() -> Self {
+        Feeder::new()
+    }
+}
+
+impl Feeder {
+    /// The state before the first byte.
+    pub fn new() -> Feeder {
+        let mut state = [0; 8];
+        // SAFETY: `state` is eight words of this function's own.
+        unsafe { ffi::tulbazhik_fresh(&mut state) };
+        Feeder { state }
+    }
+
+    /// The bytes consumed of `piece`, and the answer. What was not consumed is fed again.
+    #[inline]
+    pub fn feed(&mut self, piece: &[u8]) -> (usize, Answer) {
+        let mut out = [0; 6];
+        // SAFETY: the pointer and the length are a slice's; the state and `out` are arrays of the
+        // right sizes, both lent to nobody else.
+        unsafe { ffi::tulbazhik_feed(&mut self.state, piece.as_ptr(), piece.len(), &mut out) };
+        let [kind, place, size, high, low, used] = out;
+        (used as usize, Answer::of_words([kind, place, size, high, low]))
+    }
+
+    /// The source's end: the held token, the end, or a refusal.
+    pub fn close(&mut self) -> Answer {
+        let mut out = [0; 6];
+        // SAFETY: as in `feed`.
+        unsafe { ffi::tulbazhik_close(&mut self.state, &mut out) };
+        let [kind, place, size, high, low, _] = out;
+        Answer::of_words([kind, place, size, high, low])
+    }
+
+    /// The bytes consumed so far.
+    pub fn place(&self) -> usize {
+        self.state[1] as usize
+    }
+
+    /// Where a symbol or literal begins that may go on in the next piece.
+    fn held(&self) -> Option<usize> {
+        matches!(self.state[0], 2 | 3 | 4 | 6 | 7).then_some(self.state[2] as usize)
+    }
+
+    /// The tokens of all that a reader gives, in chunks of 64 KiB.
+    ///
+    /// ```
+    /// use tulbazhik::Feeder;
+    ///
+    /// let mut tokens = Feeder::new().tokens_from(&b"(decl lower (Inst))"[..]);
+    /// let mut words = Vec::new();
+    /// while let Some(token) = tokens.next() {
+    ///     words.push(String::from_utf8_lossy(tokens.spelling(&token?)).into_owned());
+    /// }
+    /// assert_eq!(words, ["(", "decl", "lower", "(", "Inst", ")", ")"]);
+    /// # Ok::<(), tulbazhik::FeedError>(())
+    /// ```
+    pub fn tokens_from<R: Read>(self, reader: R) -> TokensFrom<R> {
+        self.tokens_from_in(reader, 1 << 16)
+    }
+
+    /// The same in chunks of a size of one's own, at least one byte.
+    pub fn tokens_from_in<R: Read>(self, reader: R, chunk: usize) -> TokensFrom<R> {
+        let from = self.place();
+        TokensFrom {
+            reader,
+            feeder: self,
+            window: Vec::new(),
+            from,
+            fed: 0,
+            chunk: chunk.max(1),
+            ended: false,
+            done: false,
+        }
+    }
+}
+
+/// The iterator that [`Feeder::tokens_from`] gives. It keeps a chunk and the token that is held over it.
+#[derive(Debug)]
+pub struct TokensFrom<R> {
+    reader: R,
+    feeder: Feeder,
+    /// Bytes of the source from the place `from` on, of which the first `fed` were consumed.
+    window: Vec<u8>,
+    from: usize,
+    fed: usize,
+    chunk: usize,
+    ended: bool,
+    done: bool,
+}
+
+impl<R: Read> TokensFrom<R> {
+    /// The bytes of the token that `next` gave last; of an earlier one nothing.
+    pub fn spelling(&self, token: &Token) -> &[u8] {
+        let start = token.start.wrapping_sub(self.from);
+        self.window.get(start..start.saturating_add(token.len)).unwrap_or_default()
+    }
+
+    /// A chunk more, once what was consumed and is not held is let go.
+    fn fill(&mut self) -> io::Result<()> {
+        let keep = self.feeder.held().unwrap_or(self.from + self.fed);
+        let gone = keep.saturating_sub(self.from).min(self.fed);
+        self.window.drain(..gone);
+        self.from += gone;
+        self.fed -= gone;
+        let old = self.window.len();
+        self.window.resize(old + self.chunk, 0);
+        let got = loop {
+            match self.reader.read(&mut self.window[old..]) {
+                Err(error) if error.kind() == io::ErrorKind::Interrupted => {}
+                got => break got,
+            }
+        };
+        self.window.truncate(old + *got.as_ref().unwrap_or(&0));
+        self.ended = got? == 0;
+        Ok(())
+    }
+}
+
+impl<R: Read> Iterator for TokensFrom<R> {
+    type Item = Result<Token, FeedError>;
+
+    fn next(&mut self) -> Option<Self::Item> {
+        while !self.done {
+            let answer = if self.fed < self.window.len() {
+                let (used, answer) = self.feeder.feed(&self.window[self.fed..]);
+                self.fed += used;
+                answer
+            } else if self.ended {
+                self.feeder.close()
+            } else {
+                match self.fill() {
+                    Ok(()) => continue,
+                    Err(error) => {
+                        self.done = true;
+                        return Some(Err(FeedError::Read(error)));
+                    }
+                }
+            };
+            match answer {
+                Answer::Token(token) => return Some(Ok(token)),
+                Answer::More => {}
+                Answer::End => self.done = true,
+                Answer::Refused(error) => {
+                    self.done = true;
+                    return Some(Err(FeedError::Refused(error)));
+                }
+            }
+        }
+        None
+    }
+}
+
+/// Why [`TokensFrom`] stopped: the reader failed, or the source was refused.
+#[derive(Debug)]
+pub enum FeedError {
+    Read(io::Error),
+    Refused(Error),
+}
+
+impl fmt::Display for FeedError {
+    fn fmt(&self, f: &mut fmt::Formatter<'_>) -> fmt::Result {
+        match self {
+            FeedError::Read(error) => error.fmt(f),
+            FeedError::Refused(error) => error.fmt(f),
+        }
+    }
+}
+
+impl std::error::Error for FeedError {}

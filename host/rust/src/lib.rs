@@ -1,0 +1,28 @@
+//! Lexes, reads and prints ISLE rule files by code that is proved to meet its contracts on every input.
+//!
+//! A source at hand is lexed by [`tokens`] or [`next_token`]; one that comes in pieces by a [`Feeder`].
+//! [`read`] makes a table of a source's trees, and [`print`] lays a table out at a width.
+//! A refusal is an [`Error`]: a number, a place, and words with line, column and a caret.
+//!
+//! ```
+//! use tulbazhik::{Kind, tokens};
+//!
+//! let source = b"(rule (iadd x 0xff) x)";
+//! let sum: i128 = tokens(source)
+//!     .filter_map(|token| if let Kind::Int(n) = token.ok()?.kind { Some(n) } else { None })
+//!     .sum();
+//! assert_eq!(sum, 255);
+//! ```
+
+mod error;
+mod feed;
+mod ffi;
+mod lex;
+mod tables;
+mod token;
+
+pub use error::{Error, Within};
+pub use feed::{FeedError, Feeder, TokensFrom};
+pub use lex::{Tokens, next_token, tokens};
+pub use tables::{print, print_into, read, read_into};
+pub use token::{Answer, Kind, Token};

@@ -1,0 +1,94 @@
+//! Holds the wrapper, the C functions in guarded memory and the C example against the unchanged crate, in one process.
+
+// The crate's own files, unchanged, and never to be formatted from here.
+#[path = "../../../shared/docs/src/src/ast.rs"]
+#[allow(dead_code, unused, unfulfilled_lint_expectations)]
+#[rustfmt::skip]
+mod ast;
+#[path = "../../../shared/docs/src/src/error.rs"]
+#[allow(dead_code, unused)]
+#[rustfmt::skip]
+mod error;
+#[path = "../../../shared/docs/src/src/files.rs"]
+#[allow(dead_code, unused, unfulfilled_lint_expectations)]
+#[rustfmt::skip]
+mod files;
+#[path = "../../../shared/docs/src/src/lexer.rs"]
+#[allow(dead_code, unused)]
+#[rustfmt::skip]
+mod lexer;
+#[path = "../../../shared/docs/src/src/log.rs"]
+#[allow(dead_code, unused)]
+mod log;
+#[path = "../../../shared/docs/src/src/printer.rs"]
+#[allow(dead_code, unused)]
+#[rustfmt::skip]
+mod printer;
+
+// The oracle's cases and its answers, from the crate and, where the crate has none, from document 01.
+#[path = "../../oracle/src/answer.rs"]
+mod answer;
+#[path = "../../oracle/src/cases/mod.rs"]
+mod cases;
+#[path = "../../oracle/src/codegen.rs"]
+mod codegen;
+#[path = "../../oracle/src/crate_side.rs"]
+mod crate_side;
+#[path = "../../oracle/src/document/mod.rs"]
+mod document;
+#[path = "../../oracle/src/drive.rs"]
+mod drive;
+#[path = "../../oracle/src/frame.rs"]
+#[allow(dead_code)]
+mod frame;
+#[path = "../../oracle/src/rng.rs"]
+mod rng;
+#[path = "../../oracle/src/token.rs"]
+mod token;
+#[path = "../../oracle/src/tree.rs"]
+mod tree;
+#[path = "../../oracle/src/worked.rs"]
+mod worked;
+
+#[path = "../rust/src/ffi.rs"]
+mod ffi;
+mod guarded;
+mod kit;
+
+use std::process::ExitCode;
+
+fn main() -> ExitCode {
+    let each: u64 = std::env::args().nth(1).and_then(|word| word.parse().ok()).unwrap_or(3000);
+    let cases = cases::Cases::new(1, &[], false).expect("no families are chosen");
+    let (mut passed, mut failed) = (0, 0);
+    for &op in frame::OPS {
+        for number in 0..each {
+            let case = cases.frame(op, number);
+            // the C example prints at width 100 alone
+            let wide = (op == b'W').then(|| frame::Frame { a: 100, ..case.clone() });
+            for case in std::iter::once(case).chain(wide) {
+                let mut expected = Vec::new();
+                answer::answer(&crate_side::CrateSide, &case, &mut expected);
+                for (way, got) in kit::answers(&case) {
+                    if got == expected {
+                        passed += 1;
+                        continue;
+                    }
+                    failed += 1;
+                    if failed <= 5 {
+                        println!("op {} case {number} by {way}: a {} b {}", op as char, case.a, case.b);
+                        println!("{}", case.bytes[..case.bytes.len().min(2000)].escape_ascii());
+                        println!("expected:\n{}got:\n{}", shown(&expected), shown(&got));
+                    }
+                }
+            }
+        }
+    }
+    println!("{passed} passed, {failed} failed");
+    if failed == 0 { ExitCode::SUCCESS } else { ExitCode::FAILURE }
+}
+
+/// A megabyte is of no use on a screen.
+fn shown(lines: &[u8]) -> String {
+    String::from_utf8_lossy(&lines[..lines.len().min(2000)]).into_owned()
+}
