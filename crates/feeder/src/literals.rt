@@ -95,7 +95,14 @@ pub fn in_digits(
 
 // After a literal's leading `0`: a prefix, or a digit like any other. One byte and no run, so that the compiler sees one call of
 // in_digits and keeps every run in registers.
-pub fn in_zero(piece: &[u8], place: usize, i: usize, stop: usize, start: usize, minus: bool) -> Moved
+pub fn in_zero(
+    piece: &[u8],
+    place: usize,
+    i: usize,
+    stop: usize,
+    start: usize,
+    minus: bool,
+) -> Moved
     requires { ⌜ Span (now piece) place i stop ⌝ }
     ensures { λ r. ⌜ Further i stop r × (moved (now (piece .entry)) place r ≡ call (now (piece .entry)) place i (Zero start minus)) ⌝ }
 {

@@ -53,15 +53,17 @@ returns-2 c =
     let a = c .before .before .before .before .before .before .before .before .args in
     let f : radixOf 48 (getD (now (a .piece)) (a .i) 0) ≡ 10 = sym (c .before .before .before .before .before .radix-of .ensures) ∙ c .before .before .before .before .if1 .taken in
     let g = sym (c .before .before .before .is-literal-byte .ensures) ∙ c .before .before .if2 .left in
-    rw (c .ended .ensures) (ended-stops (c .before .concluded .result) (a .i) (a .stop) (a .i) (omega arith),
-    sym (call-ends (now (a .piece)) (a .place) (a .i) (Zero (a .start) (a .minus)) (omega arith) (omega arith) (c .before .concluded .result) _ (c .before .concluded .ensures) (rw (eq-eqb _ _ f, g) refl)))
+    rw (c .ended .ensures) (
+      ended-stops (c .before .concluded .result) (a .i) (a .stop) (a .i) (omega arith),
+      sym (call-ends (now (a .piece)) (a .place) (a .i) (Zero (a .start) (a .minus)) (omega arith) (omega arith) (c .before .concluded .result) _ (c .before .concluded .ensures) (rw (eq-eqb _ _ f, g) refl)),
+    )
 
 add-t22 : tie.Need-add-t22
 add-t22 c = search needs
 
 returns-3 : tie.Need-returns-3
 unfolding turn
-returns-3 c = 
+returns-3 c =
     let a = c .before .before .before .before .args in
     let f : eqb (radixOf 48 (getD (now (a .piece)) (a .i) 0)) 10 ≡ false = rw (← c .before .radix-of .ensures) (ne-eqb _ _ (c .if1 .left)) in
     ((omega arith, omega arith), rw (c .before .radix-of .ensures) (sym (call-go (now (a .piece)) (a .place) (a .i) (Zero (a .start) (a .minus)) (omega arith) (omega arith) (Digits (a .start) (a .minus) (radixOf 48 (getD (now (a .piece)) (a .i) 0)) Empty) (rw f refl))))
