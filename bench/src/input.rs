@@ -4,9 +4,10 @@ use crate::generate;
 use crate::lexer::{Lexer, Token};
 use crate::printer::SExpr;
 
-/// The longest source that the kit takes, and the part that growth is measured from, which the program takes too.
+/// The longest source that the kit takes, the part that growth is measured from, and one whose table and text fit the program's rooms.
 const LIMIT: usize = 1_048_576;
 const PART: usize = 65_536;
+const SMALL: usize = 24_576;
 
 /// Writes the input, its part, and the part as often as it goes into the limit, so that growth compares like with like.
 /// The input is a file's, or generated where there is no file's name.
@@ -17,7 +18,8 @@ pub fn write(from: &str, folder: &str) -> Result<(), String> {
     };
     let part = front(&text, PART)?;
     let grown = part.repeat(LIMIT / part.len().max(1));
-    for (name, text) in [("whole", front(&text, LIMIT)?), ("part", part), ("grown", &grown)] {
+    let (whole, small) = (front(&text, LIMIT)?, front(&text, SMALL)?);
+    for (name, text) in [("whole", whole), ("part", part), ("grown", &grown), ("small", small)] {
         std::fs::write(format!("{folder}/{name}"), text).map_err(|error| format!("{folder}: {error}"))?;
     }
     Ok(())
