@@ -14,7 +14,7 @@ use Rattle.table.specs.Trees.{Tree, Trees, symbol as symbolTree, integer, bindi
 use Rattle.reader.specs.Grammar.{nameOf, after, One, got, closed, Many, upTo, toEnd, cons, andThen, readItems, listed, bound, ifAt, readTree, file, whole, fileOf}
 use Rattle.reader.specs.Sizes.{signOf, Lexes}
 use Rattle.reader.specs.Nesting.{Nested, NestedAll}
-use Rattle.reader.specs.declared.Sign.the-variants.{At, Other}
+use Rattle.reader.specs.declared.parts.Sign.the-variants.{At, Other}
 use Rattle.reader.proofs.Derived.{Derives, OneIs, tree-is}
 use Rattle.reader.proofs.Bounds.{place, Spans, spans, next-of}
 use Rattle.reader.proofs.Trees.{read-end, read-rparen, read-int, read-list, read-name, read-bind}

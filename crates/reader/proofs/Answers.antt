@@ -7,10 +7,10 @@ use Rattle.lexer.specs.declared.Lexed.{Lexed}
 use Rattle.lexer.specs.declared.Lexed.the-variants as lexed
 use Rattle.lexer.specs.Tokens.{answerOf}
 use Rattle.refusals.specs.Numbers.{sourceLimit, tableLimit}
-use Rattle.reader.specs.declared.OneRead.{OneRead}
-use Rattle.reader.specs.declared.OneRead.the-variants as one
-use Rattle.reader.specs.declared.ManyRead.{ManyRead}
-use Rattle.reader.specs.declared.ManyRead.the-variants as many
+use Rattle.reader.specs.declared.parts.OneRead.{OneRead}
+use Rattle.reader.specs.declared.parts.OneRead.the-variants as one
+use Rattle.reader.specs.declared.parts.ManyRead.{ManyRead}
+use Rattle.reader.specs.declared.parts.ManyRead.the-variants as many
 use Rattle.reader.specs.Sizes.{Size, Sizes, oneOf, manyOf, pastOf, SizeIn, SizesIn}
 
 pub sign-past : (x : Lexed) (t : CodeToken) (p : ℕ) {k : ℕ} → x ≡ lexed.Token t p → t ≡ code.At → pastOf (answerOf x) ≤ k → p + 1 ≤ k

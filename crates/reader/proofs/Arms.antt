@@ -18,8 +18,8 @@ use Rattle.lexer.specs.Lexing.{nextToken}
 use Rattle.table.specs.Trees.{symbol as symbolTree, integer, records}
 use Rattle.reader.specs.Grammar.{nameOf, after, One, got, closed, ended, no, Many, readItems, listed, bound, ifAt, readTree}
 use Rattle.reader.specs.Sizes.{Size, takes, shut, over, not, Sizes, sizeOf, sizesOf, listSize, bindSize, signOf, pastOf, Lexes}
-use Rattle.reader.specs.declared.Sign.{Sign}
-use Rattle.reader.specs.declared.Sign.the-variants.{At, Other}
+use Rattle.reader.specs.declared.parts.Sign.{Sign}
+use Rattle.reader.specs.declared.parts.Sign.the-variants.{At, Other}
 use Rattle.reader.proofs.Bounds.{place, Onward, onward, next-of, past-top, place-top, name-length}
 use Rattle.reader.proofs.Trees.{read-end, read-refused, read-rparen, read-at, read-int, read-list, read-deep, read-name, read-bind, read-bind-deep}
 use Rattle.reader.proofs.Sized.{integer-size, symbol-size, list-size, bind-size}

@@ -10,10 +10,10 @@ use Rattle.lexer.specs.Lexing.{nextToken}
 use Rattle.table.specs.Trees.{symbol as symbolTree}
 use Rattle.reader.specs.Grammar.{nameOf, after, got, readItems, listed, readTree}
 use Rattle.reader.specs.Sizes.{takes, shut, not, sizeOf, sizesOf, manyOf, listSize, signOf, Seen, Lexes}
-use Rattle.reader.specs.declared.Sign.the-variants.{Other}
-use Rattle.reader.specs.declared.Look.{Look}
-use Rattle.reader.specs.declared.ManyRead.{ManyRead}
-use Rattle.reader.specs.declared.ManyRead.the-variants as many
+use Rattle.reader.specs.declared.parts.Sign.the-variants.{Other}
+use Rattle.reader.specs.declared.parts.Look.{Look}
+use Rattle.reader.specs.declared.parts.ManyRead.{ManyRead}
+use Rattle.reader.specs.declared.parts.ManyRead.the-variants as many
 use Rattle.reader.proofs.Bounds.{past-top, name-length}
 use Rattle.reader.proofs.Trees.{read-rparen, read-list, read-deep, read-name}
 use Rattle.reader.proofs.Sized.{symbol-size, list-size}

@@ -22,8 +22,8 @@ use Rattle.table.specs.Trees.{Tree, Trees, symbol as symbolTree, integer, bindi
 use Rattle.table.proofs.Heads.{length-record}
 use Rattle.reader.specs.Grammar.{One, got, closed, ended, no, Many, upTo, toEnd, none-of, nameOf, readItems, listed, bound, readTree}
 use Rattle.reader.specs.Sizes.{Sizes, sizesOf, countOf, recordsIn, allRecordsIn, listRecordsIn, signOf, Lexes, Room, Rooms, ListRoom}
-use Rattle.reader.specs.declared.Sign.{Sign}
-use Rattle.reader.specs.declared.Sign.the-variants.{At, Other}
+use Rattle.reader.specs.declared.parts.Sign.{Sign}
+use Rattle.reader.specs.declared.parts.Sign.the-variants.{At, Other}
 use Rattle.reader.proofs.Arms.{hand-name, bind-read}
 use Rattle.reader.proofs.Glances.{name-seen, name-seen-length, list-seen}
 use Rattle.reader.proofs.Sized.{integer-size, symbol-size}

@@ -12,8 +12,8 @@ use Rattle.lexer.specs.Lexing.{nextToken}
 use Rattle.table.specs.Trees.{Tree, symbol as symbolTree, integer}
 use Rattle.reader.specs.Grammar.{nameOf, after, One, got, closed, ended, no, Many, none-of, readItems, listed, bound, ifAt, named, begun, ofToken, readTree}
 use Rattle.reader.specs.Sizes.{signOf}
-use Rattle.reader.specs.declared.Sign.{Sign}
-use Rattle.reader.specs.declared.Sign.the-variants.{At, Other}
+use Rattle.reader.specs.declared.parts.Sign.{Sign}
+use Rattle.reader.specs.declared.parts.Sign.the-variants.{At, Other}
 
 module _ (s : List ℕ) where
   -- at a depth that is not 0, and at any depth

@@ -9,14 +9,14 @@ use Rattle.lexer.specs.Lexing.{nextToken}
 use Rattle.wide.specs.Bytes.{le}
 use Rattle.table.specs.Trees.{count, record-of, records, recordsOf}
 use Rattle.reader.specs.Grammar.{One, got, closed, ended, no, Many, upTo, toEnd, none-of, ifAt}
-use Rattle.reader.specs.declared.OneRead.{OneRead}
-use Rattle.reader.specs.declared.OneRead.the-variants as one
-use Rattle.reader.specs.declared.ManyRead.{ManyRead}
-use Rattle.reader.specs.declared.ManyRead.the-variants as many
-use Rattle.reader.specs.declared.Sign.{Sign}
-use Rattle.reader.specs.declared.Sign.the-variants as sign
-use Rattle.reader.specs.declared.Look.{Look}
-use Rattle.reader.specs.declared.Look.the-variants as look
+use Rattle.reader.specs.declared.parts.OneRead.{OneRead}
+use Rattle.reader.specs.declared.parts.OneRead.the-variants as one
+use Rattle.reader.specs.declared.parts.ManyRead.{ManyRead}
+use Rattle.reader.specs.declared.parts.ManyRead.the-variants as many
+use Rattle.reader.specs.declared.parts.Sign.{Sign}
+use Rattle.reader.specs.declared.parts.Sign.the-variants as sign
+use Rattle.reader.specs.declared.parts.Look.{Look}
+use Rattle.reader.specs.declared.parts.Look.the-variants as look
 
 -- a tree's bytes and the token after it; the start of a `)`; the source's end; a refusal's number and place
 pub data Size : Type 0 where

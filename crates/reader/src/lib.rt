@@ -1,147 +1,27 @@
 // The reader: the trees of a source, as a node table, or the first refusal. A pass that measures and refuses, then a pass that writes.
+mod parts;
 mod put;
 
 use lexer::Lexed;
 use lexer::Token;
+use parts::Look;
+use parts::ManyRead;
+use parts::OneRead;
+use parts::Sign;
 use refusals::Refusal;
 ghost use mathlib.Core.Path.{_≡_};
-ghost use Prim.Native.Nat.{_≤_, suc};
+ghost use Prim.Native.Nat.{suc};
 ghost use lib.ListN.{length};
-ghost use Rattle.refusals.specs.Numbers.{sourceLimit};
 ghost use Rattle.lists.specs.Over.{over};
 ghost use Rattle.lexer.specs.Tokens.{answerOf};
 ghost use Rattle.reader.specs.Grammar.{readTree, readItems};
 ghost use Rattle.reader.specs.Reading.{reading, readInto, readOf};
-ghost use Rattle.reader.specs.Sizes.{sizeOf, sizesOf, oneOf, manyOf, not, bindSize, listSize, signOf, pastOf, countOf, SizeIn, SizesIn, none-at, Lexes, Seen, recordsIn, allRecordsIn, listRecordsIn, Room, Rooms, ListRoom};
+ghost use Rattle.reader.specs.Sizes.{sizeOf, sizesOf, oneOf, manyOf, Lexes, recordsIn, allRecordsIn, listRecordsIn, Room, Rooms, ListRoom};
 
 pub enum Readout {
     // The bytes of the table.
     Table(usize),
     Refused(Refusal),
-}
-
-// What begins with a token.
-enum OneRead {
-    // A tree: the bytes of its records, and the token after it.
-    Got(usize, Lexed),
-    // A `)`, and its start.
-    Closed(usize),
-    Ended,
-    No(Refusal),
-}
-
-// Trees in a row: how many, the bytes of their records, and the start of the `)` that stopped them.
-enum ManyRead {
-    UpTo(usize, usize, usize),
-    ToEnd(usize, usize),
-    No(Refusal),
-}
-
-// The place past an `@`.
-enum Sign {
-    At(usize),
-    Other,
-}
-
-// What a token is to a loop over trees, at a glance: most tokens are names and parens, and need no call to read a tree.
-enum Look {
-    // A symbol with no `@` behind it: its start, its length, and the token after it.
-    Name(usize, usize, Lexed),
-    // The starts of `(` and `)`.
-    Open(usize),
-    Close(usize),
-    Other,
-}
-
-fn no(number: u8, place: usize) -> OneRead
-    ensures { λ r. ⌜ oneOf r ≡ not number place ⌝ }
-{
-    OneRead::No(Refusal { number, place })
-}
-
-fn none(number: u8, place: usize) -> ManyRead
-    ensures { λ r. ⌜ manyOf r ≡ none-at number place ⌝ }
-{
-    ManyRead::No(Refusal { number, place })
-}
-
-fn sign_of(tok: Lexed) -> Sign
-    requires { ⌜ pastOf (answerOf tok) ≤ sourceLimit ⌝ }
-    ensures { λ r. ⌜ r ≡ signOf (answerOf tok) ⌝ }
-{
-    match tok {
-        Lexed::End => Sign::Other,
-        Lexed::Refused(_) => Sign::Other,
-        Lexed::Token(t, start) => match t {
-            Token::LParen => Sign::Other,
-            Token::RParen => Sign::Other,
-            Token::At => Sign::At(start + 1),
-            Token::Symbol(_) => Sign::Other,
-            Token::Int(_, _) => Sign::Other,
-        },
-    }
-}
-
-fn glance(src: &[u8], tok: Lexed) -> Look
-    requires { ⌜ Lexes (now src) (answerOf tok) ⌝ }
-    ensures { λ r. ⌜ Seen (now (src .entry)) (answerOf tok) r ⌝ }
-{
-    match tok {
-        Lexed::End => Look::Other,
-        Lexed::Refused(_) => Look::Other,
-        Lexed::Token(t, start) => match t {
-            Token::LParen => Look::Open(start),
-            Token::RParen => Look::Close(start),
-            Token::At => Look::Other,
-            Token::Int(_, _) => Look::Other,
-            Token::Symbol(n) => {
-                let next = lexer::next_token(src, start + n);
-                let sign = sign_of(next);
-                match sign {
-                    Sign::Other => Look::Name(start, n, next),
-                    Sign::At(_) => Look::Other,
-                }
-            }
-        },
-    }
-}
-
-fn count_of(items: ManyRead) -> usize
-    ensures { λ r. ⌜ r ≡ countOf (manyOf items) ⌝ }
-{
-    match items {
-        ManyRead::UpTo(k, _, _) => k,
-        ManyRead::ToEnd(k, _) => k,
-        ManyRead::No(_) => 0,
-    }
-}
-
-// A list whose `(` stands at `start`, by its items: open at the end, it is refused at its `(`.
-fn listed(src: &[u8], start: usize, items: ManyRead) -> OneRead
-    requires { ⌜ SizesIn (manyOf items) ⌝ }
-    ensures { λ r. ⌜ oneOf r ≡ listSize (now (src .entry)) start (manyOf items) ⌝ }
-{
-    match items {
-        ManyRead::UpTo(_, size, at) => {
-            let next = lexer::next_token(src, at + 1);
-            OneRead::Got(size + 10, next)
-        }
-        ManyRead::ToEnd(_, _) => no(refusals::LIST_OPEN, start),
-        ManyRead::No(r) => OneRead::No(r),
-    }
-}
-
-// A binding of a name of n bytes, by what follows its `@`: a `)` or the end is refused there.
-fn bound(src: &[u8], n: usize, value: OneRead) -> OneRead
-    requires { ⌜ (n ≤ sourceLimit) × SizeIn (oneOf value) ⌝ }
-    ensures { λ r. ⌜ oneOf r ≡ bindSize (length (now (src .entry))) n (oneOf value) ⌝ }
-{
-    match value {
-        OneRead::Got(size, next) => OneRead::Got(n + 6 + size, next),
-        OneRead::Closed(at) => no(refusals::NO_TREE, at),
-        OneRead::Ended => no(refusals::NO_TREE, src.len()),
-        OneRead::No(r) => OneRead::No(r),
-    }
 }
 
 // Reads the tree that `tok` begins, with `depth` lists and bindings still to be opened.
@@ -154,31 +34,31 @@ fn read_tree(src: &[u8], tok: Lexed, depth: usize) -> OneRead
         Lexed::Refused(r) => OneRead::No(r),
         Lexed::Token(t, start) => match t {
             Token::RParen => OneRead::Closed(start),
-            Token::At => no(refusals::NO_SYMBOL, start),
+            Token::At => parts::no(refusals::NO_SYMBOL, start),
             Token::Int(_, n) => {
                 let next = lexer::next_token(src, start + n);
                 OneRead::Got(22, next)
             }
             Token::LParen => {
                 if depth == 0 {
-                    return no(refusals::TOO_DEEP, start);
+                    return parts::no(refusals::TOO_DEEP, start);
                 }
                 let first = lexer::next_token(src, start + 1);
                 let items = read_items(src, first, depth - 1);
-                listed(src, start, items)
+                parts::listed(src, start, items)
             }
             Token::Symbol(n) => {
                 let next = lexer::next_token(src, start + n);
-                let sign = sign_of(next);
+                let sign = parts::sign_of(next);
                 match sign {
                     Sign::Other => OneRead::Got(n + 6, next),
                     Sign::At(at) => {
                         if depth == 0 {
-                            return no(refusals::TOO_DEEP, start);
+                            return parts::no(refusals::TOO_DEEP, start);
                         }
                         let first = lexer::next_token(src, at);
                         let value = read_tree(src, first, depth - 1);
-                        bound(src, n, value)
+                        parts::bound(src, n, value)
                     }
                 }
             }
@@ -195,7 +75,7 @@ fn read_items(src: &[u8], first: Lexed, depth: usize) -> ManyRead
     let mut n = 0;
     let mut size = 0;
     loop {
-        let seen = glance(src, tok);
+        let seen = parts::glance(src, tok);
         match seen {
             Look::Close(at) => {
                 return ManyRead::UpTo(n, size, at);
@@ -207,7 +87,7 @@ fn read_items(src: &[u8], first: Lexed, depth: usize) -> ManyRead
             }
             Look::Open(start) => {
                 if depth == 0 {
-                    return none(refusals::TOO_DEEP, start);
+                    return parts::none(refusals::TOO_DEEP, start);
                 }
                 let inner = lexer::next_token(src, start + 1);
                 let items = read_items(src, inner, depth - 1);
@@ -216,7 +96,7 @@ fn read_items(src: &[u8], first: Lexed, depth: usize) -> ManyRead
                         return ManyRead::No(r);
                     }
                     ManyRead::ToEnd(_, _) => {
-                        return none(refusals::LIST_OPEN, start);
+                        return parts::none(refusals::LIST_OPEN, start);
                     }
                     ManyRead::UpTo(_, len, at) => {
                         tok = lexer::next_token(src, at + 1);
@@ -259,7 +139,7 @@ fn write_tree(src: &[u8], tok: Lexed, depth: usize, buf: &mut [u8]) -> OneRead
         Lexed::Refused(r) => OneRead::No(r),
         Lexed::Token(t, start) => match t {
             Token::RParen => OneRead::Closed(start),
-            Token::At => no(refusals::NO_SYMBOL, start),
+            Token::At => parts::no(refusals::NO_SYMBOL, start),
             Token::Int(w, n) => {
                 put::integer(w, buf);
                 let next = lexer::next_token(src, start + n);
@@ -267,15 +147,15 @@ fn write_tree(src: &[u8], tok: Lexed, depth: usize, buf: &mut [u8]) -> OneRead
             }
             Token::LParen => {
                 if depth == 0 {
-                    return no(refusals::TOO_DEEP, start);
+                    return parts::no(refusals::TOO_DEEP, start);
                 }
                 let first = lexer::next_token(src, start + 1);
                 let items = write_list(src, first, depth - 1, buf);
-                listed(src, start, items)
+                parts::listed(src, start, items)
             }
             Token::Symbol(n) => {
                 let next = lexer::next_token(src, start + n);
-                let sign = sign_of(next);
+                let sign = parts::sign_of(next);
                 match sign {
                     Sign::Other => {
                         put::name(src, start, n, 1, buf);
@@ -283,12 +163,12 @@ fn write_tree(src: &[u8], tok: Lexed, depth: usize, buf: &mut [u8]) -> OneRead
                     }
                     Sign::At(at) => {
                         if depth == 0 {
-                            return no(refusals::TOO_DEEP, start);
+                            return parts::no(refusals::TOO_DEEP, start);
                         }
                         put::name(src, start, n, 3, buf);
                         let first = lexer::next_token(src, at);
                         let value = write_tree(src, first, depth - 1, &mut buf[n + 6..]);
-                        bound(src, n, value)
+                        parts::bound(src, n, value)
                     }
                 }
             }
@@ -304,7 +184,7 @@ fn write_list(src: &[u8], first: Lexed, depth: usize, buf: &mut [u8]) -> ManyRea
         × (now (buf .exit) ≡ over (listRecordsIn (readItems (readTree (now (src .entry)) depth) (suc (length (now (src .entry)))) (answerOf first))) (now (buf .entry))) ⌝ }
 {
     let items = write_items(src, first, depth, &mut buf[10..]);
-    put::list(count_of(items), buf);
+    put::list(parts::count_of(items), buf);
     items
 }
 
@@ -319,7 +199,7 @@ fn write_items(src: &[u8], first: Lexed, depth: usize, buf: &mut [u8]) -> ManyRe
     let mut n = 0;
     let mut size = 0;
     loop {
-        let seen = glance(src, tok);
+        let seen = parts::glance(src, tok);
         match seen {
             Look::Close(at) => {
                 return ManyRead::UpTo(n, size, at);
@@ -332,7 +212,7 @@ fn write_items(src: &[u8], first: Lexed, depth: usize, buf: &mut [u8]) -> ManyRe
             }
             Look::Open(start) => {
                 if depth == 0 {
-                    return none(refusals::TOO_DEEP, start);
+                    return parts::none(refusals::TOO_DEEP, start);
                 }
                 let inner = lexer::next_token(src, start + 1);
                 let items = write_list(src, inner, depth - 1, &mut buf[size..]);
@@ -341,7 +221,7 @@ fn write_items(src: &[u8], first: Lexed, depth: usize, buf: &mut [u8]) -> ManyRe
                         return ManyRead::No(r);
                     }
                     ManyRead::ToEnd(_, _) => {
-                        return none(refusals::LIST_OPEN, start);
+                        return parts::none(refusals::LIST_OPEN, start);
                     }
                     ManyRead::UpTo(_, len, at) => {
                         tok = lexer::next_token(src, at + 1);

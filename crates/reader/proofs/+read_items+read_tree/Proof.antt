@@ -21,12 +21,12 @@ use Rattle.reader.proofs.read_tree.Reads as read-tree
 use Rattle.reader.proofs.read_tree.Kinds as read-tree-kinds
 use Rattle.reader.proofs.+read_items+read_tree.Lts-read_tree as read-tree-lts
 use Rattle.lexer.proofs.next_token.Reads as next-token-reads
-use Rattle.reader.proofs.bound.Reads as bound-reads
-use Rattle.reader.proofs.glance.Reads as glance-reads
-use Rattle.reader.proofs.listed.Reads as listed-reads
-use Rattle.reader.proofs.no.Reads as no-reads
-use Rattle.reader.proofs.none.Reads as none-reads
-use Rattle.reader.proofs.sign_of.Reads as sign-of-reads
+use Rattle.reader.proofs.parts.bound.Reads as bound-reads
+use Rattle.reader.proofs.parts.glance.Reads as glance-reads
+use Rattle.reader.proofs.parts.listed.Reads as listed-reads
+use Rattle.reader.proofs.parts.no.Reads as no-reads
+use Rattle.reader.proofs.parts.none.Reads as none-reads
+use Rattle.reader.proofs.parts.sign_of.Reads as sign-of-reads
 use Rattle.reader.proofs.+read_items+read_tree.{statement}
 use Rattle.reader.proofs.+read_items+read_tree.Tie.{close}
 

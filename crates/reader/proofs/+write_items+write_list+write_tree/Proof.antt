@@ -28,16 +28,16 @@ use Rattle.reader.proofs.write_tree.Reads as write-tree
 use Rattle.reader.proofs.write_tree.Kinds as write-tree-kinds
 use Rattle.reader.proofs.+write_items+write_list+write_tree.Lts-write_tree as write-tree-lts
 use Rattle.lexer.proofs.next_token.Reads as next-token-reads
-use Rattle.reader.proofs.bound.Reads as bound-reads
-use Rattle.reader.proofs.count_of.Reads as count-of-reads
-use Rattle.reader.proofs.glance.Reads as glance-reads
-use Rattle.reader.proofs.listed.Reads as listed-reads
-use Rattle.reader.proofs.no.Reads as no-reads
-use Rattle.reader.proofs.none.Reads as none-reads
+use Rattle.reader.proofs.parts.bound.Reads as bound-reads
+use Rattle.reader.proofs.parts.count_of.Reads as count-of-reads
+use Rattle.reader.proofs.parts.glance.Reads as glance-reads
+use Rattle.reader.proofs.parts.listed.Reads as listed-reads
+use Rattle.reader.proofs.parts.no.Reads as no-reads
+use Rattle.reader.proofs.parts.none.Reads as none-reads
 use Rattle.reader.proofs.put.integer.Reads as integer-reads
 use Rattle.reader.proofs.put.list.Reads as list-reads
 use Rattle.reader.proofs.put.name.Reads as name-reads
-use Rattle.reader.proofs.sign_of.Reads as sign-of-reads
+use Rattle.reader.proofs.parts.sign_of.Reads as sign-of-reads
 use Rattle.reader.proofs.+write_items+write_list+write_tree.{statement}
 use Rattle.reader.proofs.+write_items+write_list+write_tree.Tie.{close}
 

@@ -1,11 +1,11 @@
--- `reader::sign_of`: a line for each kind of token.
+-- `reader::parts::sign_of`: a line for each kind of token.
 use native.Mathlib.Omega.{arith}
 use Rattle.reader.proofs.Answers.{sign-past}
 use borrow.Author.Needs.{needs}
-use Rattle.reader.proofs.sign_of.Statement.{statement}
-use Rattle.reader.proofs.sign_of.Tie as tie
-use Rattle.reader.proofs.sign_of.Reads as reads
-use Rattle.reader.proofs.sign_of.Lts as lts
+use Rattle.reader.proofs.parts.sign_of.Statement.{statement}
+use Rattle.reader.proofs.parts.sign_of.Tie as tie
+use Rattle.reader.proofs.parts.sign_of.Reads as reads
+use Rattle.reader.proofs.parts.sign_of.Lts as lts
 
 enum-told : tie.Need-enum-told
 enum-told c = search needs

@@ -1,13 +1,13 @@
--- `reader::listed`: a line for each answer of the items.
+-- `reader::parts::listed`: a line for each answer of the items.
 use native.Mathlib.Omega.{arith}
 use Rattle.reader.proofs.Answers.{items-small}
 use borrow.Author.Needs.{needs}
-use Rattle.reader.proofs.listed.Statement.{statement}
-use Rattle.reader.proofs.listed.Tie as tie
-use Rattle.reader.proofs.listed.Reads as reads
-use Rattle.reader.proofs.listed.Lts as lts
+use Rattle.reader.proofs.parts.listed.Statement.{statement}
+use Rattle.reader.proofs.parts.listed.Tie as tie
+use Rattle.reader.proofs.parts.listed.Reads as reads
+use Rattle.reader.proofs.parts.listed.Lts as lts
 use Rattle.lexer.proofs.next_token.Reads as next-token-reads
-use Rattle.reader.proofs.no.Reads as no-reads
+use Rattle.reader.proofs.parts.no.Reads as no-reads
 
 enum-known-items : tie.Need-enum-known-items
 enum-known-items c = search needs

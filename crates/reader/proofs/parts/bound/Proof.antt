@@ -1,12 +1,12 @@
--- `reader::bound`: a line for each answer of the tree behind an `@`.
+-- `reader::parts::bound`: a line for each answer of the tree behind an `@`.
 use native.Mathlib.Omega.{arith}
 use Rattle.reader.proofs.Answers.{value-small}
 use borrow.Author.Needs.{needs}
-use Rattle.reader.proofs.bound.Statement.{statement}
-use Rattle.reader.proofs.bound.Tie as tie
-use Rattle.reader.proofs.bound.Reads as reads
-use Rattle.reader.proofs.bound.Lts as lts
-use Rattle.reader.proofs.no.Reads as no-reads
+use Rattle.reader.proofs.parts.bound.Statement.{statement}
+use Rattle.reader.proofs.parts.bound.Tie as tie
+use Rattle.reader.proofs.parts.bound.Reads as reads
+use Rattle.reader.proofs.parts.bound.Lts as lts
+use Rattle.reader.proofs.parts.no.Reads as no-reads
 
 enum-known-value : tie.Need-enum-known-value
 enum-known-value c = search needs

@@ -1,14 +1,14 @@
--- `reader::glance`: a line for each kind of token.
+-- `reader::parts::glance`: a line for each kind of token.
 use mathlib.Core.Path.{sym, _∙_}
 use native.Mathlib.Omega.{arith}
 use Rattle.reader.proofs.Arms.{hand, hand-past, hand-next}
 use borrow.Author.Needs.{needs}
-use Rattle.reader.proofs.glance.Statement.{statement}
-use Rattle.reader.proofs.glance.Tie as tie
-use Rattle.reader.proofs.glance.Reads as reads
-use Rattle.reader.proofs.glance.Lts as lts
+use Rattle.reader.proofs.parts.glance.Statement.{statement}
+use Rattle.reader.proofs.parts.glance.Tie as tie
+use Rattle.reader.proofs.parts.glance.Reads as reads
+use Rattle.reader.proofs.parts.glance.Lts as lts
 use Rattle.lexer.proofs.next_token.Reads as next-token-reads
-use Rattle.reader.proofs.sign_of.Reads as sign-of-reads
+use Rattle.reader.proofs.parts.sign_of.Reads as sign-of-reads
 
 enum-told : tie.Need-enum-told
 enum-told c = search needs
