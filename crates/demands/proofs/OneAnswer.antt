@@ -4,7 +4,9 @@ use mathlib.Core.Path.{_≡_, refl, sym, ap, _∙_}
 use mathlib.Core.Bool.{Bool}
 use mathlib.Core.List.{List}
 use lib.ListN.{length, getD, drop}
-use lib.IntN.{pos}
+use lib.IntN.{ℤ, pos}
+use mir.Syntax.{w64}
+use mir.Val.{ofZ}
 use lib.Signed.{ltZ}
 use Rattle.refusals.specs.declared.Refusal.{Refusal}
 use Rattle.lists.specs.Over.{fitted}
@@ -237,6 +239,7 @@ pub record OneAnswer : Type 0 where
   pub classes·is-sym-other-char : (b : ℕ) → One Bool (λ r. r ≡ symbolOther (classOf b))
   pub classes·digit-of : (b : ℕ) → One ℕ (λ r. r ≡ digitOf b)
   pub classes·is-literal-byte : (b : ℕ) → One Bool (λ r. r ≡ literalByte b)
+  pub wide·as-unsigned : (z : ℤ) → One ℕ (λ r. r ≡ ofZ w64 z)
   pub wide·negative : (w : Wide) → One Bool (λ r. r ≡ ltZ (value w) (pos 0))
   pub wide·with-sign : (n : Limbs) (minus : Bool) → OneHeld Signed LowFits (λ r. signedOf r ≡ integerOf minus (val n))
   pub wide·grow : (n : Limbs) (radix digit : ℕ) → One Grown (λ r. r ≡ grown (val n * radix + digit))
@@ -254,7 +257,6 @@ pub record OneAnswer : Type 0 where
   pub lexer·literal·concluded : (minus : Bool) (start end : ℕ) (x : Reading) → OneHeld Lexed LexedFits (λ r. answerOf r ≡ concluded minus start end x)
   pub lexer·next-token : (src : List ℕ) (at : ℕ) → OneHeld Lexed LexedFits (λ r. answerOf r ≡ nextToken src at)
   pub feeder·fresh : One State (λ r. r ≡ freshState)
-  pub feeder·fed-live : (mode : Mode) (place : ℕ) (piece : List ℕ) → OneHeld Fed FedFits (λ r. fedOf r ≡ feedFrom mode place piece)
   pub feeder·feed : (s : State) (piece : List ℕ) → OneHeld Fed FedFits (λ r. fedOf r ≡ feedOf s piece)
   pub feeder·close : (s : State) → OneHeld Fed FedFits (λ r. fedOf r ≡ closeOf s)
   pub feeder-lent·feed-in : (s : State) (piece : List ℕ) → BothHeld Out State OutFits (λ r exit. fedOf (record { out = r; state = exit }) ≡ feedOf s piece)
@@ -278,6 +280,7 @@ one-answer = record {
   classes·is-sym-other-char = λ b. one _;
   classes·digit-of = λ b. one _;
   classes·is-literal-byte = λ b. one _;
+  wide·as-unsigned = λ z. one _;
   wide·negative = λ w. one _;
   wide·with-sign = λ n minus. held LowFits signedOf signed-same _;
   wide·grow = λ n radix digit. one _;
@@ -295,7 +298,6 @@ one-answer = record {
   lexer·literal·concluded = λ minus start end x. held LexedFits answerOf answer-same _;
   lexer·next-token = λ src at. held LexedFits answerOf answer-same _;
   feeder·fresh = one _;
-  feeder·fed-live = λ mode place piece. held FedFits fedOf fed-same _;
   feeder·feed = λ s piece. held FedFits fedOf fed-same _;
   feeder·close = λ s. held FedFits fedOf fed-same _;
   feeder-lent·feed-in = λ s piece. fed-lent _;

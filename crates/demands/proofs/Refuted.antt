@@ -7,6 +7,8 @@ use native.Mathlib.Omega.{arith}
 use lib.IntN.{ℤ, pos, negsuc}
 use lib.ListN.{length, getD, replicate}
 use lib.Signed.{ltZ}
+use mir.Syntax.{w64}
+use mir.Val.{ofZ}
 use Rattle.lists.specs.Over.{fitted}
 use Rattle.classes.specs.declared.Class.the-variants.{Space, Other, FormFeed}
 use Rattle.classes.specs.Classes.{classOf, blank, lineEnd, symbolFirst, symbolOther, digitOf, literalByte}
@@ -138,6 +140,13 @@ sign-saturates e = let z : _≡_ {A = ℕ} 0 1 = cc in omega arith
 sign-lowest : Not (integer (negsuc (2 ^ 127 - 1)) ≡ integerOf true (2 ^ 127))
 unfolding integerOf
 sign-lowest e = let z : _≡_ {A = ℕ} 0 1 = cc in omega arith
+
+-- wide::as_unsigned: the magnitude of -1; 0 for the lowest
+unsigned-magnitude : Not (_≡_ {A = ℕ} 1 (ofZ w64 (negsuc 0)))
+unsigned-magnitude e = omega arith
+
+unsigned-lowest : Not (_≡_ {A = ℕ} 0 (ofZ w64 (negsuc (2 ^ 63 - 1))))
+unsigned-lowest e = omega arith
 
 -- wide::negative: by the low limb; 0 is negative
 negative-low : Not (true ≡ ltZ (value (wide (pos 0) (2 ^ 64 - 1))) (pos 0))
