@@ -69,10 +69,10 @@ BothHeld A B H P = (a b : A) (m n : B) → H a → H b → P a m → P b n → (
 
 -- ---- a promise by a definition decides, and so does one through a view that tells results apart
 
-one : {A : Type 0} (d : A) → One A (λ r. r ≡ d)
+pub one : {A : Type 0} (d : A) → One A (λ r. r ≡ d)
 one d a b e f = e ∙ sym f
 
-both : {A B : Type 0} (d : A) (o : B) → Both A B (λ r m. (r ≡ d) × (m ≡ o))
+pub both : {A B : Type 0} (d : A) (o : B) → Both A B (λ r m. (r ≡ d) × (m ≡ o))
 both d o a b m n e f = (e .0 ∙ sym (f .0), e .1 ∙ sym (f .1))
 
 seen : {A B : Type 0} (v : A → B) → ((a b : A) → v a ≡ v b → a ≡ b) → (d : B) → One A (λ r. v r ≡ d)
@@ -228,7 +228,7 @@ fed-lent d a b m n h k e f =
     let z = fed-same (record { out = a; state = m }) (record { out = b; state = n }) h k (e ∙ sym f) in
     (ap (λ (x : Fed). x .out) z, ap (λ (x : Fed). x .state) z)
 
--- ---- THEOREM one-answer: a field a public function, its promise as the source has it; refusals has no function
+-- ---- THEOREM one-answer: a field a public function, its promise as the source has it; refusals has no function, the kit is in OneAnswerKit
 pub record OneAnswer : Type 0 where
   pub lists·byte-at : (s : List ℕ) (i : ℕ) → One ℕ (λ r. r ≡ getD s i 0)
   pub lists·less : (a b : ℕ) → One ℕ (λ r. r ≡ a - b)
