@@ -1,11 +1,11 @@
 -- For each public function of the kit two wrong answers that its promise rules out, on a given input, refuted by computation.
-use mathlib.Core.Path.{_≡_, ap, sym, _∙_}
-use mathlib.Core.Bool.{Bool, true, false, cond}
+use mathlib.Core.Path.{_≡_, ap, _∙_}
+use mathlib.Core.Bool.{true, false, cond}
 use mathlib.Core.List.{List, [], _∷_, _++_}
 use Prim.Native.Nat.{ℕ, _-_, _^_}
 use native.Mathlib.Omega.{arith}
 use lib.IntN.{ℤ, pos, negsuc}
-use lib.ListN.{length, getD, replicate}
+use lib.ListN.{getD, replicate}
 use Rattle.classes.specs.Classes.{classOf}
 use Rattle.wide.specs.declared.Wide.{Wide}
 use Rattle.wide.specs.Value.{valueOf}
@@ -22,8 +22,8 @@ use Rattle.feeder.specs.declared.State.{State}
 use Rattle.feeder.specs.declared.Answer.the-variants as answer
 use Rattle.feeder.specs.declared.Out.{Out}
 use Rattle.feeder.specs.Machine.{turn, step, closing}
-use Rattle.feeder.specs.Feeding.{Fed, live, closed, freshState, feedFrom, feedOf, closeOf, replyOf}
-use Rattle.table.specs.Trees.{Tree, symbol, runsOn, isSymbol, record-of, records}
+use Rattle.feeder.specs.Feeding.{live, closed, freshState, feedFrom, feedOf, closeOf, replyOf}
+use Rattle.table.specs.Trees.{runsOn, isSymbol, record-of, records}
 use Rattle.table.specs.Records.{recordAt}
 use Rattle.table.specs.Decoding.{treeAt, treesAt, tableOf}
 use Rattle.reader.specs.Grammar.{readItems, readTree, fileOf}
@@ -32,7 +32,7 @@ use Rattle.printer.specs.Layout.{lay, pageFrom}
 use Rattle.printer.specs.Printing.{printing, printedInto}
 use Rattle.kit.specs.Words.{tokenWords, wordsOf, replyWords, fedWords}
 use Rattle.kit_feed.specs.States.{packOf, unpackOf, stateWords}
-use Rattle.kit_feed.proofs.Packed.{PhaseFits, back}
+use Rattle.kit_feed.proofs.Packed.{back}
 use Rattle.kit_trees.specs.Words.{readWords, printWords}
 
 abbrev Not : Type 0 → Type 0
