@@ -1,3 +1,4 @@
 pub mod Driver
+pub mod DriverKit
 pub mod Events
 pub mod Rules
