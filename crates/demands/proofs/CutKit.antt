@@ -4,12 +4,12 @@ use mathlib.Core.Path.{_≡_, refl, ap, _∙_}
 use mathlib.Core.List.{List, [], _∷_, _++_}
 use lib.ListN.{length, drop, getD}
 use Rattle.refusals.specs.Numbers.{sourceLimit}
-use Rattle.lexer.specs.Tokens.{Kind, lparen, rparen, at-sign, symbol, int, token}
+use Rattle.lexer.specs.Tokens.{Kind, lparen, rparen, at-sign, symbol, int}
 use Rattle.lexer.specs.Streams.{Stream, stop, tokensOf}
 use Rattle.feeder.specs.declared.State.{State}
 use Rattle.feeder.specs.Feeding.{Reply, more, finish, ready, refuse, Fed, freshState, feedOf, closeOf}
 use Rattle.kit.specs.Words.{kindWords, refusedWords, replyWords, fedWords}
-use Rattle.kit_feed.specs.States.{packOf, unpackOf}
+use Rattle.kit_feed.specs.States.{packOf}
 use Rattle.kit_feed.proofs.Packed.{PhaseFits, back}
 use Rattle.demands.specs.Driver.{after, driveBy, drive, joined}
 use Rattle.demands.specs.DriverKit.{afterWords, driveWords, streamWords}
