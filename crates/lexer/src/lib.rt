@@ -154,7 +154,8 @@ fn anew(l: Lexed) -> Lexed
 }
 
 // The next token of the source from a place on, with its start; the end; or a refusal. Blanks and comments are passed, and the first
-// other byte decides. One loop in one function: an answer that a call wrote would be copied whole on every return.
+// other byte decides. One loop in one function: an answer that a call wrote would be copied whole on every return. A literal's reader gets
+// a slice of its own, so that this one's pointer and length stay in registers.
 pub fn next_token(src: &[u8], at: usize) -> Lexed
     ensures { λ r. ⌜ answerOf r ≡ nextToken (now (src .entry)) at ⌝ }
 {
@@ -200,11 +201,11 @@ pub fn next_token(src: &[u8], at: usize) -> Lexed
                 return refused(refusals::FORM_FEED, i);
             }
             Class::Minus => {
-                let literal = unsigned_at(src, true, i, i + 1);
+                let literal = unsigned_at(&src[..], true, i, i + 1);
                 return anew(literal);
             }
             Class::Digit => {
-                let literal = unsigned_at(src, false, i, i);
+                let literal = unsigned_at(&src[..], false, i, i);
                 return anew(literal);
             }
             Class::Other => {
