@@ -1,20 +1,24 @@
 -- A call seen from inside its piece, and what the private enums of the feeder's code stand for.
 use Prim.Native.Nat.{ℕ, _+_, _-_, _≤_, _<_}
-use mathlib.Core.Bool.{cond}
+use mathlib.Core.Path.{_≡_}
+use mathlib.Core.Bool.{Bool, true, false, cond}
 use mathlib.Core.List.{List}
-use lib.Dec.{leb}
-use lib.ListN.{length, drop}
+use lib.Dec.{eqb, leb}
+use lib.ListN.{length, getD, drop}
 use Rattle.refusals.specs.Numbers.{sourceLimit}
 use Rattle.classes.specs.declared.Class.{Class}
 use Rattle.classes.specs.Classes.{semicolon, rparen}
+use Rattle.lexer.specs.declared.Token.{Token}
+use Rattle.lexer.specs.declared.Token.the-variants as token
 use Rattle.lexer.specs.declared.Lexed.{Lexed}
 use Rattle.lexer.specs.declared.Lexed.the-variants as lexed
 use Rattle.lexer.specs.Tokens.{tokenOf}
-use Rattle.feeder.specs.Machine.{Half, Clear, Semi, Paren, Mode, Blank, Block, half, deeper}
+use Rattle.feeder.specs.Machine.{Half, Clear, Semi, Paren, Mode, Blank, Line, Opener, Symbol, Sign, Block, Zero, Digits, half, deeper}
 use Rattle.feeder.specs.Feeding.{Fed, fed, ready, refuse, live, feedFrom}
 use Rattle.feeder.specs.declared.Phase.the-variants.{Refused}
 use Rattle.feeder.specs.declared.runs.Moved.{Moved}
 use Rattle.feeder.specs.declared.runs.Moved.the-variants.{On, Give, Halt}
+use Rattle.feeder.specs.declared.glance.Seen.{Seen}
 use Rattle.feeder.specs.declared.comments.Inside.{Inside}
 use Rattle.feeder.specs.declared.comments.Inside.the-variants.{Out, In}
 
@@ -55,3 +59,33 @@ abbrev pub insideOf : Class → ℕ → Half → Inside
 insideOf c d Clear = In d (half c)
 insideOf c d Semi = cond (rparen c) (cond (leb d 1) Out (In (d - 1) Clear)) (In d (half c))
 insideOf c d Paren = cond (semicolon c) (In (deeper d) Clear) (In d (half c))
+
+-- outside of every token and comment
+abbrev pub outside : Mode → Bool
+outside Blank = true
+outside Line = false
+outside (Opener st) = false
+outside (Symbol st) = false
+outside (Sign st) = false
+outside (Block st d h) = false
+outside (Zero st minus) = false
+outside (Digits st minus r x) = false
+
+-- of the tokens that are no literals, the one of n bytes that begins with the byte b
+abbrev pub tokenBy : ℕ → ℕ → Token
+tokenBy b n = cond (eqb b 40) token.LParen (cond (eqb b 41) token.RParen (cond (eqb b 64) token.At (token.Symbol n)))
+
+-- the symbol that begins at j and ends before `stop`, if it was seen, is the one that is handed out, wherever below the limit the piece stands
+abbrev pub Ran : List ℕ → ℕ → ℕ → Seen → Type 0
+Ran q j stop g =
+    0 < g .end →
+    (g .start ≡ j) × (j < g .end) × (g .end ≤ stop)
+    × ((p : ℕ) → p + stop ≤ sourceLimit → moved q p (Give (token.Symbol (g .end - j)) (p + j) (g .end)) ≡ call q p (j + 1) (Symbol (p + j)))
+
+-- the token before `stop`, if one was seen, is what a call hands out that begins outside of tokens and comments,
+-- wherever below the limit the piece stands
+abbrev pub Shown : List ℕ → ℕ → Seen → Type 0
+Shown q stop g =
+    0 < g .end →
+    (g .start < g .end) × (g .end ≤ stop)
+    × ((p : ℕ) → p + stop ≤ sourceLimit → moved q p (Give (tokenBy (getD q (g .start) 0) (g .end - g .start)) (p + g .start) (g .end)) ≡ call q p 0 Blank)

@@ -7,6 +7,8 @@ use crate::Phase;
 use crate::State;
 use crate::answered;
 use crate::comments::in_block;
+use crate::glance::token_ahead;
+use crate::glance::token_by;
 use crate::literals::begun_by;
 use crate::literals::in_digits;
 use crate::literals::in_sign;
@@ -16,10 +18,11 @@ use lexer::Token;
 use refusals::Refusal;
 ghost use mathlib.Core.Path.{_≡_};
 ghost use Prim.Native.Nat.{_-_, min};
+ghost use lib.ListN.{length};
 ghost use Rattle.refusals.specs.Numbers.{sourceLimit};
 ghost use Rattle.feeder.specs.Machine.{Blank, Line, Opener, Symbol};
 ghost use Rattle.feeder.specs.Feeding.{feedFrom, fedOf};
-ghost use Rattle.feeder.specs.Code.{call, moved, Further, Span};
+ghost use Rattle.feeder.specs.Code.{call, moved, Further, Span, outside};
 
 // Where a run ends: in a mode before a byte of the piece; with a token or a refusal, and the bytes consumed.
 pub enum Moved {
@@ -158,11 +161,36 @@ fn below_limit(place: usize, n: usize) -> usize
     left
 }
 
-// A live state is fed a piece.
-pub fn fed_live(mode: Mode, place: usize, piece: &[u8]) -> Fed
+// Outside of every token and comment.
+fn is_outside(mode: Mode) -> bool
+    ensures { λ r. ⌜ r ≡ outside mode ⌝ }
+{
+    match mode {
+        Mode::Blank => true,
+        Mode::Line => false,
+        Mode::Opener { start: _ } => false,
+        Mode::Symbol { start: _ } => false,
+        Mode::Sign { start: _ } => false,
+        Mode::Block {
+            start: _,
+            depth: _,
+            half: _,
+        } => false,
+        Mode::Zero { start: _, minus: _ } => false,
+        Mode::Digits {
+            start: _,
+            minus: _,
+            radix: _,
+            reading: _,
+        } => false,
+    }
+}
+
+// A live state is fed a piece, a run at a time.
+fn fed_on(mode: Mode, place: usize, piece: &[u8], stop: usize) -> Fed
+    requires { ⌜ stop ≡ min (length (now piece)) (sourceLimit - place) ⌝ }
     ensures { λ r. ⌜ fedOf r ≡ feedFrom mode place (now (piece .entry)) ⌝ }
 {
-    let stop = below_limit(place, piece.len());
     let mut m = mode;
     let mut i = 0;
     while i < stop {
@@ -215,4 +243,28 @@ pub fn fed_live(mode: Mode, place: usize, piece: &[u8]) -> Fed
             place: place + i,
         },
     )
+}
+
+// A live state is fed a piece. Most calls begin outside of tokens and comments, in a piece that decides the next token alone: the walk is for
+// the rest.
+pub fn fed_live(mode: Mode, place: usize, piece: &[u8]) -> Fed
+    ensures { λ r. ⌜ fedOf r ≡ feedFrom mode place (now (piece .entry)) ⌝ }
+{
+    let stop = below_limit(place, piece.len());
+    if is_outside(mode) {
+        let seen = token_ahead(piece, stop);
+        let start = seen.start;
+        let end = seen.end;
+        if 0 < end {
+            return answered(
+                Answer::Token(token_by(piece[start], end - start), place + start),
+                end,
+                State {
+                    phase: Phase::Live(Mode::Blank),
+                    place: place + end,
+                },
+            );
+        }
+    }
+    fed_on(mode, place, piece, stop)
 }

@@ -119,8 +119,8 @@ fn reading_in(k: u64, hi: u64, lo: u64) -> Reading
     Reading::Number(Limbs { hi, lo })
 }
 
-fn mode_in(tag: u64, start: usize, d: u64, h: u64, x: Reading) -> Mode
-    ensures { λ r. ⌜ r ≡ modeIn tag start d h x ⌝ }
+fn mode_in(tag: u64, start: usize, d: u64, h: u64, k: u64, hi: u64, lo: u64) -> Mode
+    ensures { λ r. ⌜ r ≡ modeIn tag start d h (readingIn k hi lo) ⌝ }
 {
     if tag == 0 {
         return Mode::Blank;
@@ -154,15 +154,15 @@ fn mode_in(tag: u64, start: usize, d: u64, h: u64, x: Reading) -> Mode
         start,
         minus: flag_in(h),
         radix: (d % 256) as u8,
-        reading: x,
+        reading: reading_in(k, hi, lo),
     }
 }
 
-fn phase_in(tag: u64, start: usize, d: u64, h: u64, x: Reading) -> Phase
-    ensures { λ r. ⌜ r ≡ phaseIn tag start d h x ⌝ }
+fn phase_in(tag: u64, start: usize, d: u64, h: u64, k: u64, hi: u64, lo: u64) -> Phase
+    ensures { λ r. ⌜ r ≡ phaseIn tag start d h (readingIn k hi lo) ⌝ }
 {
     if tag < 8 {
-        return Phase::Live(mode_in(tag, start, d, h, x));
+        return Phase::Live(mode_in(tag, start, d, h, k, hi, lo));
     }
     if tag == 8 {
         return Phase::Closed;
@@ -177,9 +177,8 @@ fn phase_in(tag: u64, start: usize, d: u64, h: u64, x: Reading) -> Phase
 pub fn unpack(w: [u64; 8]) -> State
     ensures { λ r. ⌜ r ≡ unpackOf w ⌝ }
 {
-    let x = reading_in(w[5], w[6], w[7]);
     State {
-        phase: phase_in(w[0], w[2] as usize, w[3], w[4], x),
+        phase: phase_in(w[0], w[2] as usize, w[3], w[4], w[5], w[6], w[7]),
         place: w[1] as usize,
     }
 }

@@ -1,127 +1,84 @@
--- `feeder::runs::fed_live`: run by run, what is left of the call is the call.
-use Prim.Native.Nat.{ℕ, _+_, _-_, _≤_, _<_}
-use mathlib.Core.Path.{_≡_, refl, sym, ap, subst, _∙_}
+-- `feeder::runs::fed_live`: the token that was seen is the call's; where none was, the walk gives the call.
+use Prim.Native.Nat.{_+_, _≤_, _<_}
+use mathlib.Core.Path.{_≡_, sym, ap, _∙_}
 use native.Mathlib.Omega.{arith}
-use borrow.Author.Needs.{needs}
 use lib.ListN.{length}
 use denote.Ref.{now}
-use Rattle.refusals.specs.Numbers.{sourceLimit, tooLong}
-use Rattle.feeder.specs.Feeding.{fed, refuse, dead, feedFrom}
-use Rattle.feeder.specs.Code.{call, moved, Further}
-use Rattle.feeder.specs.declared.runs.Moved.{Moved}
-use Rattle.feeder.proofs.Calls.{call-start, call-end, call-limit}
+use Rattle.refusals.specs.Numbers.{sourceLimit}
+use Rattle.feeder.specs.Machine.{Mode, Blank}
+use Rattle.feeder.specs.Feeding.{feedFrom}
+use Rattle.feeder.proofs.Calls.{call-start}
+use Rattle.feeder.proofs.Glances.{outside-is}
 use Rattle.feeder.proofs.runs.fed_live.Statement.{statement}
 use Rattle.feeder.proofs.runs.fed_live.Tie as tie
 
-abbrev Inv-loop : tie.InvT-loop
-Inv-loop place piece stop m₀ i₀ m i = (i ≤ stop) × (call piece place i m ≡ feedFrom m₀ place piece)
+-- the token that was seen stands in the piece, below the limit
+limits : (u : tie.Then2) → let l = u .before .before .before .before in let a = l .before .before .args in let g = u .before .token-ahead .result in
+    (g .start < g .end) × (g .end ≤ length (now (a .piece))) × (g .end ≤ l .below-limit .result) × (a .place + l .below-limit .result ≤ sourceLimit)
+limits u =
+    let e = u .before .token-ahead .ensures (u .if2 .taken) in
+    let m = u .before .before .before .before .below-limit .ensures in
+    let t = u .if2 .taken in
+    let f = e .1 in
+    (e .0, omega arith, f, omega arith)
 
-abbrev μ-loop : tie.MeasureT-loop
-μ-loop place piece stop m₀ i₀ m i = stop - i
-
--- the bytes up to `stop` are the piece's, and stand below the limit if there are any
-limits : (c : tie.In-loop Inv-loop μ-loop) → let l = c .before in let s = l .before .below-limit .result in let a = l .before .before .before .args in
-    (s ≤ length (now (a .piece))) × (l .loop .i < s → a .place + s ≤ sourceLimit)
-limits c = let e = c .before .before .below-limit .ensures in (omega arith, λ h. omega arith)
-
--- where a run ended
-further : (u : tie.After-advance Inv-loop μ-loop) (x : Moved) → u .advance .result ≡ x → let l = u .before .before in Further (l .loop .i) (l .before .below-limit .result) x
-further u x e = let l = u .before .before in subst (Further (l .loop .i) (l .before .below-limit .result)) e (u .advance .ensures .0)
-
-below-limit-requires : tie.Need-below-limit-requires Inv-loop μ-loop
+below-limit-requires : tie.Need-below-limit-requires
 below-limit-requires c κs = tt
 
-loop-holds : tie.Need-loop-holds Inv-loop μ-loop
-loop-holds c = (omega arith, call-start (now (c .before .before .args .piece)) (c .before .before .args .place) 0 (c .before .before .args .mode))
+is-outside-requires : tie.Need-is-outside-requires
+is-outside-requires c κs = tt
 
-advance-requires : tie.Need-advance-requires Inv-loop μ-loop
-advance-requires c κs = record { some = c .loop-test .taken; within = limits c .0; below = limits c .1 (c .loop-test .taken) }
+token-ahead-requires : tie.Need-token-ahead-requires
+token-ahead-requires c κs = omega (arith, c .before .before .below-limit .ensures)
 
-enum-known-k : tie.Need-enum-known-k Inv-loop μ-loop
-enum-known-k c = search needs
+shared-slice-read-token-by : tie.Need-shared-slice-read-token-by
+shared-slice-read-token-by c = let h = limits (c .before) in omega (arith, h .0, h .1)
 
-loop-less : tie.Need-loop-less Inv-loop μ-loop
-loop-less c = let f = further (c .before .before .before) _ (c .before .k .given .1) in omega (arith, f .0, f .1)
+sub-token-by : tie.Need-sub-token-by
+sub-token-by c = omega (arith, limits (c .before) .0)
 
-loop-again : tie.Need-loop-again Inv-loop μ-loop
-loop-again c = let u = c .before .before .before in let f = further u _ (c .before .k .given .1) in (f .1, sym (ap (moved _ _) (c .before .k .given .1)) ∙ u .advance .ensures .1 ∙ u .before .before .loop .inv .1)
+token-by-requires : tie.Need-token-by-requires
+token-by-requires c κs = tt
 
-enum-known-t : tie.Need-enum-known-t Inv-loop μ-loop
-enum-known-t c = search needs
+add-t15 : tie.Need-add-t15
+add-t15 c = let h = limits (c .before .before) in omega (arith, h .0, h .2, h .3)
 
-add-t21 : tie.Need-add-t21 Inv-loop μ-loop
-add-t21 c = let f = further (c .before .before .before) _ (c .before .t .given .1) in omega (arith, f, limits (c .before .before .before .before) .1 (c .before .before .before .before .loop-test .taken))
+add-t19 : tie.Need-add-t19
+add-t19 c = let h = limits (c .before .before) in omega (arith, h .2, h .3)
 
-answered-requires : tie.Need-answered-requires Inv-loop μ-loop
+answered-requires : tie.Need-answered-requires
 answered-requires c κs = tt
 
-returns : tie.Need-returns Inv-loop μ-loop
-returns c = let u = c .before .before .before .before in rw (c .answered .ensures) (sym (ap (moved _ _) (c .before .before .t .given .1)) ∙ u .advance .ensures .1 ∙ u .before .before .loop .inv .1)
+returns : tie.Need-returns
+returns c =
+    let u = c .before .before .before in
+    let t = u .before .before .before in
+    let a = t .before .before .before .args in
+    let b : a .mode ≡ Blank = outside-is (a .mode) (sym (t .is-outside .ensures) ∙ u .before .before .if1 .taken) in
+    rw (c .answered .ensures, c .before .token-by .ensures)
+    (u .before .token-ahead .ensures (u .if2 .taken) .2 (a .place) (limits u .3)
+    ∙ call-start (now (a .piece)) (a .place) 0 Blank
+    ∙ ap (λ (m : Mode). feedFrom m (a .place) (now (a .piece))) (sym b))
 
-enum-known-r : tie.Need-enum-known-r Inv-loop μ-loop
-enum-known-r c = search needs
+fed-on-requires : tie.Need-fed-on-requires
+fed-on-requires c κs = c .before .before .below-limit .ensures
 
-add-t25 : tie.Need-add-t25 Inv-loop μ-loop
-add-t25 c = let f = further (c .before .before .before) _ (c .before .r .given .1) in omega (arith, f, limits (c .before .before .before .before) .1 (c .before .before .before .before .loop-test .taken))
-
-answered-requires-2 : tie.Need-answered-requires-2 Inv-loop μ-loop
-answered-requires-2 c κs = tt
-
-returns-2 : tie.Need-returns-2 Inv-loop μ-loop
-returns-2 c = let u = c .before .before .before .before in rw (c .answered2 .ensures) (sym (ap (moved _ _) (c .before .before .r .given .1)) ∙ u .advance .ensures .1 ∙ u .before .before .loop .inv .1)
-
-add-t30 : tie.Need-add-t30 Inv-loop μ-loop
-add-t30 c = omega (arith, c .before .before .before .below-limit .ensures)
-
-answered-requires-3 : tie.Need-answered-requires-3 Inv-loop μ-loop
-answered-requires-3 c κs = tt
-
-returns-3 : tie.Need-returns-3 Inv-loop μ-loop
-returns-3 c =
-    let l = c .before .before .before in
-    let a = l .before .before .before .args in
-    let n = l .before .below-limit in
-    let e : l .loop .i ≡ n .result = omega arith in
-    let f = feedFrom (a .mode) (a .place) (now (a .piece)) in
-    rw (c .answered3 .ensures)
-    (subst (λ (u : ℕ). fed (refuse tooLong sourceLimit) u (dead tooLong sourceLimit (a .place + u)) ≡ f) e
-    (sym (call-limit (now (a .piece)) (a .place) (l .loop .i) (l .loop .m) (omega arith) (omega (arith, n .ensures))) ∙ l .loop .inv .1))
-
-add-t15 : tie.Need-add-t15 Inv-loop μ-loop
-add-t15 c = omega (arith, c .before .before .before .below-limit .ensures)
-
-answered-requires-4 : tie.Need-answered-requires-4 Inv-loop μ-loop
-answered-requires-4 c κs = tt
-
-returns-4 : tie.Need-returns-4 Inv-loop μ-loop
-returns-4 c =
-    let l = c .before .before .before in
-    let a = l .before .before .before .args in
-    rw (c .answered4 .ensures) (sym (call-end (now (a .piece)) (a .place) (l .loop .i) (l .loop .m) (omega arith)) ∙ l .loop .inv .1)
+returns-2 : tie.Need-returns-2
+returns-2 c = c .fed-on .ensures
 
 pub fed-live-spec : {M : Type 1} → statement M
 fed-live-spec =
     tie.close
     (tie.spec
-    Inv-loop
-    μ-loop
     below-limit-requires
-    loop-holds
-    advance-requires
-    enum-known-k
-    loop-less
-    loop-again
-    enum-known-t
-    add-t21
+    is-outside-requires
+    token-ahead-requires
+    shared-slice-read-token-by
+    sub-token-by
+    token-by-requires
+    add-t15
+    add-t19
     answered-requires
     returns
-    enum-known-r
-    add-t25
-    answered-requires-2
-    returns-2
-    add-t30
-    answered-requires-3
-    returns-3
-    add-t15
-    answered-requires-4
-    returns-4)
+    fed-on-requires
+    returns-2)

@@ -42,12 +42,15 @@ returns-7 c = search (needs, c .flag-in .ensures, eq-eqb, ne-eqb, lt-ltb, le-ltb
 flag-in-requires-2 : tie.Need-flag-in-requires-2
 flag-in-requires-2 c κs = search needs
 
-cast-t11 : tie.Need-cast-t11
-cast-t11 c = search needs
+cast-t13 : tie.Need-cast-t13
+cast-t13 c = search needs
+
+reading-in-requires : tie.Need-reading-in-requires
+reading-in-requires c κs = search needs
 
 returns-8 : tie.Need-returns-8
 unfolding modeIn
-returns-8 c = search (needs, c .flag-in2 .ensures, eq-eqb, ne-eqb, lt-ltb, le-ltb, lt-leb, le-leb)
+returns-8 c = search (needs, c .reading-in .ensures, c .before .flag-in2 .ensures, eq-eqb, ne-eqb, lt-ltb, le-ltb, lt-leb, le-leb)
 
 pub mode-in-spec : {M : Type 1} → statement M
 mode-in-spec =
@@ -63,5 +66,6 @@ mode-in-spec =
     flag-in-requires
     returns-7
     flag-in-requires-2
-    cast-t11
+    cast-t13
+    reading-in-requires
     returns-8)

@@ -16,12 +16,12 @@ returns-2 : tie.Need-returns-2
 unfolding phaseIn
 returns-2 c = search (needs, eq-eqb, ne-eqb, lt-ltb, le-ltb, lt-leb, le-leb)
 
-cast-t9 : tie.Need-cast-t9
-cast-t9 c = search needs
+cast-t11 : tie.Need-cast-t11
+cast-t11 c = search needs
 
 returns-3 : tie.Need-returns-3
 unfolding phaseIn
 returns-3 c = search (needs, eq-eqb, ne-eqb, lt-ltb, le-ltb, lt-leb, le-leb)
 
 pub phase-in-spec : {M : Type 1} → statement M
-phase-in-spec = tie.close (tie.spec mode-in-requires returns returns-2 cast-t9 returns-3)
+phase-in-spec = tie.close (tie.spec mode-in-requires returns returns-2 cast-t11 returns-3)
