@@ -2,3 +2,4 @@ pub mod Places
 pub mod Choice
 pub mod Writing
 pub mod Each
+pub mod Blocks

@@ -27,11 +27,8 @@ fn bytes(src: &[u8], start: usize, n: usize, buf: &mut [u8])
     requires { ⌜ (start + n ≤ length (now src)) × (n ≤ length (now buf)) ⌝ }
     ensures { λ _. ⌜ now (buf .exit) ≡ over (take n (drop start (now (src .entry)))) (now (buf .entry)) ⌝ }
 {
-    let mut i = 0;
-    while i < n {
-        buf[i] = src[start + i];
-        i += 1;
-    }
+    let end = start + n;
+    lists::put(&src[start..end], buf);
 }
 
 // The record of a symbol, or of a binding's name.

@@ -49,13 +49,6 @@ go-all x k b₀ b i rest g h =
     let e : i ≡ k = omega (arith, g .top) in
     g .wrote .holds ∙ ap (λ (j : ℕ). over (le j x) b₀) e
 
--- a text that fits its buffer, and one that does not
-pub fits-in : (o b b′ : List ℕ) → length o ≤ length b → b′ ≡ over o b → b′ ≡ fitted o b
-fits-in o b b′ h e = e ∙ sym (ap (λ (t : Bool). cond t (over o b) b) (le-leb (length o) (length b) h))
-
-pub no-room : (o b : List ℕ) → length b < length o → b ≡ fitted o b
-no-room o b h = sym (ap (λ (t : Bool). cond t (over o b) b) (lt-leb (length o) (length b) h))
-
 -- two limbs one after the other: the second into the rest of the buffer
 pub sixteen : (b b₁ ys : List ℕ) (u l : ℕ) (z : ℤ) → SFits w64 z → l < 2 ^ 64 → 16 ≤ length b → u ≡ ofZ w64 z → b₁ ≡ over (le 8 l) b
     → ys ≡ over (le 8 u) (take (length b₁ - 8) (drop 8 b₁)) → putMid 8 (length b₁ - 8) b₁ ys ≡ fitted (wideBytes (valueOf z l)) b

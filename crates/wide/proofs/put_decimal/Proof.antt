@@ -11,7 +11,8 @@ use Rattle.wide.specs.Value.{val, value}
 use Rattle.wide.specs.Decimal.{digitsOf, decimalOf}
 use Rattle.wide.proofs.Decimals.{text-top}
 use Rattle.wide.proofs.Spelling.{minus-text, plain-text}
-use Rattle.wide.proofs.Putting.{fits-in, no-room, minus-put, minus-room}
+use Rattle.lists.proofs.Blocks.{fits-in, no-room}
+use Rattle.wide.proofs.Putting.{minus-put, minus-room}
 use borrow.Author.Needs.{needs}
 use Rattle.wide.proofs.put_decimal.Statement.{statement}
 use Rattle.wide.proofs.put_decimal.Tie as tie

@@ -2,7 +2,7 @@
 use native.Mathlib.Omega.{arith}
 use Rattle.wide.specs.Bytes.{le}
 use Rattle.wide.proofs.Numbers.{le-length}
-use Rattle.wide.proofs.Putting.{fits-in, no-room}
+use Rattle.lists.proofs.Blocks.{fits-in, no-room}
 use borrow.Author.Needs.{needs}
 use Rattle.wide.proofs.put_u32.Statement.{statement}
 use Rattle.wide.proofs.put_u32.Tie as tie

@@ -8,7 +8,8 @@ use mir.ValLaws.{toZ-ofZ}
 use Rattle.wide.specs.Value.{value}
 use Rattle.wide.specs.Bytes.{wideBytes}
 use Rattle.wide.proofs.Numbers.{wide-length}
-use Rattle.wide.proofs.Putting.{sixteen, no-room}
+use Rattle.lists.proofs.Blocks.{no-room}
+use Rattle.wide.proofs.Putting.{sixteen}
 use borrow.Author.Needs.{needs}
 use Rattle.wide.proofs.put_wide.Statement.{statement}
 use Rattle.wide.proofs.put_wide.Tie as tie

@@ -1,69 +1,44 @@
--- `reader::put::bytes`: one byte a turn.
-use mathlib.Core.Path.{_≡_, refl, ap, _∙_}
-use Prim.Native.Nat.{ℕ, _+_, _-_, _≤_}
+-- `reader::put::bytes`: a part of the source, put where there is room.
+use mathlib.Core.Path.{_≡_, ap, _∙_}
+use mathlib.Core.List.{List}
+use Prim.Native.Nat.{ℕ, _+_, _-_}
 use native.Mathlib.Omega.{arith}
-use borrow.Author.Needs.{needs}
 use lib.ListN.{length, take, drop}
+use borrow.Author.Needs.{needs}
+use denote.Ref.{now}
 use Rattle.lists.specs.Over.{over}
-use Rattle.lists.proofs.Writing.{Wrote, wrote-none, wrote-length}
-use Rattle.reader.proofs.Putting.{copied}
+use Rattle.lists.proofs.Blocks.{fitted-over}
+use Rattle.table.proofs.Stands.{part-size}
 use Rattle.reader.proofs.put.bytes.Statement.{statement}
 use Rattle.reader.proofs.put.bytes.Tie as tie
-use Rattle.reader.proofs.put.bytes.Reads as reads
-use Rattle.reader.proofs.put.bytes.Lts as lts
 
-abbrev Inv-loop : tie.InvT-loop
-Inv-loop src start n buf₀ i₀ buf i = (i ≤ n) × (start + n ≤ length src) × (n ≤ length buf₀) × (length buf ≡ length buf₀) × Wrote (take i (drop start src)) buf₀ buf i
+add-end : tie.Need-add-end
+add-end c = search needs
 
-abbrev μ-loop : tie.MeasureT-loop
-μ-loop src start n buf₀ i₀ buf i = n - i
+sub-put : tie.Need-sub-put
+sub-put c = search needs
 
-loop-holds : tie.Need-loop-holds Inv-loop μ-loop
-loop-holds c = (search needs, search needs, search needs, refl, wrote-none _)
+part-put-start : tie.Need-part-put-start
+part-put-start c = search needs
 
-add-buf : tie.Need-add-buf Inv-loop μ-loop
-add-buf c = search needs
+part-put-end : tie.Need-part-put-end
+part-put-end c = search needs
 
-shared-slice-read-buf : tie.Need-shared-slice-read-buf Inv-loop μ-loop
-shared-slice-read-buf c = search needs
+put-requires : tie.Need-put-requires
+put-requires c κs = search needs
 
-slice-write-buf : tie.Need-slice-write-buf Inv-loop μ-loop
-slice-write-buf c = search needs
-
-add-i : tie.Need-add-i Inv-loop μ-loop
-add-i c = search needs
-
-loop-less : tie.Need-loop-less Inv-loop μ-loop
-loop-less c = search needs
-
-loop-again : tie.Need-loop-again Inv-loop μ-loop
-loop-again c =
-    let l = c .before .before .loop in
-    let w = copied (c .before .before .before .args .src .now) _ _ (c .before .before .before .args .start) (l .i) (l .inv .4) (search needs) (search needs) in
-    (search needs, l .inv .1, l .inv .2, wrote-length w, w)
-
-same-length : tie.Need-same-length Inv-loop μ-loop
+same-length : tie.Need-same-length
 same-length c = search needs
 
-returns : tie.Need-returns Inv-loop μ-loop
+returns : tie.Need-returns
 returns c =
-    let l = c .before .loop in
-    let a = c .before .before .args in
-    let e : l .i ≡ a .n = search needs in
-    l .inv .4 .holds ∙ ap (λ (k : ℕ). over (take k (drop (a .start) (a .src .now))) (a .buf .now)) e
+    let a = c .before .before .before .before .before .before .before .args in
+    let k : a .start + a .n - a .start ≡ a .n = omega arith in
+    let e : take (a .start + a .n - a .start) (drop (a .start) (now (a .src))) ≡ take (a .n) (drop (a .start) (now (a .src))) = ap (λ (j : ℕ). take j (drop (a .start) (now (a .src)))) k in
+    let l : length (take (a .n) (drop (a .start) (now (a .src)))) ≡ a .n = part-size (now (a .src)) (a .start) (a .n) (omega arith) in
+    c .before .before .put .ensures .1 ∙ fitted-over (take (a .start + a .n - a .start) (drop (a .start) (now (a .src)))) (now (a .buf)) (omega (arith, ap length e, l)) ∙ ap (λ (o : List ℕ). over o (now (a .buf))) e
 
 pub bytes-spec : {M : Type 1} → statement M
 bytes-spec =
     tie.close
-    (tie.spec
-    Inv-loop
-    μ-loop
-    loop-holds
-    add-buf
-    shared-slice-read-buf
-    slice-write-buf
-    add-i
-    loop-less
-    loop-again
-    same-length
-    returns)
+    (tie.spec add-end sub-put part-put-start part-put-end put-requires same-length returns)
