@@ -45,9 +45,9 @@ entryOf t at (Binding len) = Is (len - 3) len 1
 entryOf t at (ListOf n) = Is (n + 1) 10 n
 entryOf t at Bad = NoEntry
 
--- a walk from entry to entry goes forward within the table
+-- a walk from entry to entry goes forward, from a place within the table, by numbers of four bytes
 abbrev pub Forward : List ℕ → ℕ → Entry → Type 0
-Forward t at (Is k n m) = (6 ≤ n) × (at < length t)
+Forward t at (Is k n m) = (6 ≤ n) × (at < length t) × (n < 4294967296) × (m < 4294967296)
 Forward t at NoEntry = Unit {0}
 
 -- the entry of a record that is not bad; of a bad one only that the walk ends

@@ -47,7 +47,7 @@ same-length-2 : tie.Need-same-length-2
 same-length-2 c = search needs
 
 returns-3 : tie.Need-returns-3
-returns-3 c = 
+returns-3 c =
     let d = c .before .before .before .before .before .before .before in
     let a = d .before .before .before .before .before .before .before .args in
     (refl, λ l. overlap 4 (a .s .now) (a .out .now) _ _ (omega arith) (omega arith) l (d .put-four .ensures) (c .before .before .put-four2 .ensures))
@@ -83,7 +83,7 @@ same-length-3 : tie.Need-same-length-3
 same-length-3 c = search needs
 
 returns-4 : tie.Need-returns-4
-returns-4 c = 
+returns-4 c =
     let d = c .before .before .before .before .before .before .before in
     let a = d .before .before .before .before .before .before .before .before .args in
     (refl, λ l. overlap 8 (a .s .now) (a .out .now) _ _ (omega arith) (omega arith) l (d .put-eight .ensures) (c .before .before .put-eight2 .ensures))
