@@ -1,30 +1,28 @@
--- The walk of `fits`: the trees still due, what is left of the budget, the bytes so far, and the answer that they decide. Assumes that the table's elements are bytes.
+-- The walk of `fits`: the trees still due, what is left of the budget, and the answer that they decide. Assumes that the table's elements are bytes.
 use mathlib.Core.Path.{_≡_, refl, ap, sym, subst, _∙_}
-use mathlib.Core.Bool.{Bool, true, false, cond}
+use mathlib.Core.Bool.{Bool, true, false}
 use mathlib.Core.List.{List, _++_, append-assoc, append-nil}
 use Prim.Native.Nat.{ℕ, _+_, _-_, _≤_, _<_}
 use native.Mathlib.Omega.{arith}
-use lib.ListN.{length, length-append}
+use lib.ListN.{length}
 use lib.Dec.{leb}
 use borrow.Author.Tests.{le-leb, lt-leb, leb-true, leb-false}
 use Rattle.wide.specs.Bytes.{le, wideBytes}
 use Rattle.wide.specs.Decimal.{decimalOf}
 use Rattle.wide.proofs.Numbers.{Bytes, le-length, wide-length}
 use Rattle.table.specs.Trees.{Tree, Trees, symbol, integer, binding, list, none, more, count, record-of, records, recordsOf}
+use Rattle.table.specs.declared.Record.{Record}
 use Rattle.table.specs.Records.{recordAt}
 use Rattle.table.specs.Decoding.{Found, found, refused, treeAt}
-use Rattle.table.proofs.Stands.{Stands, stands-left, stands-right}
+use Rattle.table.proofs.Stands.{Stands, stands-left, stands-right, stands-length}
 use Rattle.table.proofs.Heads.{Sized, Sizeds, good-sized, reads, value-read, length-record}
 use Rattle.table.proofs.Decoded.{Holds, tree-holds}
-use Rattle.printer.specs.Layout.{SingleLine, bytes, lay, cost, costs}
-use Rattle.printer.specs.Code.{Right, treeOf, around, entryOf, fitOf}
+use Rattle.printer.specs.Layout.{fits, cost, costs}
+use Rattle.printer.specs.Code.{Right, treeOf, entryOf, Entered}
 use Rattle.printer.specs.declared.cost.Entry.{Entry}
 use Rattle.printer.specs.declared.cost.Entry.the-variants.{Is, Bad as NoEntry}
-use Rattle.printer.specs.declared.cost.Fit.{Fit}
-use Rattle.printer.specs.declared.cost.Fit.the-variants.{Yes, No}
-use Rattle.printer.proofs.Singles.{span, spans, single}
 
--- a tree's first record, the trees that follow it, and its own part of the cost and of the bytes
+-- a tree's first record, the trees that follow it, and its own part of the cost
 abbrev own : Tree → List ℕ
 own (symbol n) = record-of 1 n
 own (integer z) = record-of 2 (wideBytes z)
@@ -43,12 +41,6 @@ ownCost (integer z) = length (decimalOf z)
 ownCost (binding n x) = length n + 3
 ownCost (list xs) = count xs + 1
 
-abbrev ownSpan : Tree → ℕ
-ownSpan (symbol n) = length n
-ownSpan (integer z) = length (decimalOf z)
-ownSpan (binding n x) = length n + 3
-ownSpan (list xs) = around (count xs)
-
 abbrev app : Trees → Trees → Trees
 app none ys = ys
 app (more x xs) ys = more x (app xs ys)
@@ -60,12 +52,12 @@ records-own (integer z) = sym (append-nil (record-of 2 (wideBytes z)))
 records-own (binding n x) = ap (λ (r : List ℕ). record-of 3 n ++ r) (sym (append-nil (records x)))
 records-own (list xs) = refl
 
-sums-own : (x : Tree) → (cost x ≡ ownCost x + costs (kids x)) × (span x ≡ ownSpan x + spans (kids x))
-unfolding cost span
-sums-own (symbol n) = (omega arith, omega arith)
-sums-own (integer z) = (omega arith, omega arith)
-sums-own (binding n x) = (omega arith, omega arith)
-sums-own (list xs) = (omega arith, omega arith)
+cost-own : (x : Tree) → cost x ≡ ownCost x + costs (kids x)
+unfolding cost
+cost-own (symbol n) = omega arith
+cost-own (integer z) = omega arith
+cost-own (binding n x) = omega arith
+cost-own (list xs) = omega arith
 
 kids-sized : (x : Tree) → Sized x → Sizeds (kids x)
 unfolding Sized
@@ -79,10 +71,10 @@ unfolding records
 records-app none ys = refl
 records-app (more x xs) ys = ap (λ (r : List ℕ). records x ++ r) (records-app xs ys) ∙ sym (append-assoc (records x) (recordsOf xs) (recordsOf ys))
 
-sums-app : (xs ys : Trees) → (costs (app xs ys) ≡ costs xs + costs ys) × (spans (app xs ys) ≡ spans xs + spans ys) × (count (app xs ys) ≡ count xs + count ys)
-unfolding cost span
-sums-app none ys = (omega arith, omega arith, omega arith)
-sums-app (more x xs) ys = let s = sums-app xs ys in (omega arith, omega arith, omega arith)
+sums-app : (xs ys : Trees) → (costs (app xs ys) ≡ costs xs + costs ys) × (count (app xs ys) ≡ count xs + count ys)
+unfolding cost
+sums-app none ys = (omega arith, omega arith)
+sums-app (more x xs) ys = let s = sums-app xs ys in (omega arith, omega arith)
 
 sized-app : (xs ys : Trees) → Sizeds xs → Sizeds ys → Sizeds (app xs ys)
 unfolding Sized
@@ -91,7 +83,7 @@ sized-app (more x xs) ys g h = (g .0, sized-app xs ys (g .1) h)
 
 -- what is read of a tree's first record
 entry-own : (x : Tree) (t : List ℕ) (p : ℕ) → Sized x → p ≤ length t → Stands t p (records x)
-    → entryOf t p (recordAt t p) ≡ Is (ownCost x) (ownSpan x) (length (own x)) (count (kids x))
+    → entryOf t p (recordAt t p) ≡ Is (ownCost x) (length (own x)) (count (kids x))
 unfolding Sized
 entry-own (symbol n) t p g hp s =
     sym (ap (entryOf t p) (reads (symbol n) t p g hp s)) ∙ let e : length n + 6 - 6 ≡ length n = omega arith in rw (e, length-record 1 n) refl
@@ -102,16 +94,17 @@ entry-own (binding n x) t p g hp s =
 entry-own (list xs) t p g hp s =
     sym (ap (entryOf t p) (reads (list xs) t p g hp s)) ∙ rw (length-record 4 (le 4 (count xs)), le-length 4 (count xs)) refl
 
--- the answer that the trees xs from p decide, with `left` of the budget and len bytes so far
-abbrev decided : ℕ → ℕ → ℕ → ℕ → Trees → Fit
-decided p left len k xs = cond (leb (k + costs xs) left) (Yes (p + length (recordsOf xs)) (len + spans xs)) No
+-- an entry that was read there, since the record is not bad
+entered-of : (t : List ℕ) (p k size m : ℕ) (x : Record) (e : Entry) → entryOf t p x ≡ Is k size m → Entered t p x e → e ≡ Is k size m
+entered-of t p k size m x e ex h = h .1 (λ bad. let b : NoEntry ≡ Is k size m = ap (entryOf t p) (sym bad) ∙ ex in let z : _≡_ {A = ℕ} 0 1 = cc in omega arith) ∙ ex
 
-pub record Due (t : List ℕ) (p due left len : ℕ) (answer : Fit) : Type 0 where
+pub record Due (t : List ℕ) (p due left : ℕ) (answer : Bool) : Type 0 where
+  pub within : p ≤ length t
   pub xs : Trees
   pub sized : Sizeds xs
   pub stands : Stands t p (recordsOf xs)
   pub many : count xs ≡ due
-  pub rest : answer ≡ decided p left len 0 xs
+  pub rest : answer ≡ leb (costs xs) left
 
 -- tests of one sum are one test
 leb-same : (a b c d : ℕ) → (a ≤ b → c ≤ d) → (b < a → d < c) → leb a b ≡ leb c d
@@ -121,98 +114,95 @@ leb-same a b c d f g = by (leb a b) refl
     by true e = sym (le-leb c d (f (leb-true a b e)))
     by false e = sym (lt-leb c d (g (leb-false a b e)))
 
-due-of : (t : List ℕ) (d at w c : ℕ) (y : Found Tree) → Holds t true d at y → Right y → c ≤ w → Due t at 1 (w - c) 0 (fitOf y w c)
-unfolding records Sized cost span
-due-of t d at w c (refused n a) h r l = absurd r
-due-of t d at w c (found x q) h r l = record {
+due-of : (t : List ℕ) (d at w c : ℕ) (y : Found Tree) → at ≤ length t → Holds t true d at y → Right y → c ≤ w → Due t at 1 (w - c) (fits w c (treeOf y))
+unfolding records Sized cost
+due-of t d at w c (refused n a) ha h r l = absurd r
+due-of t d at w c (found x q) ha h r l = record {
+  within = ha;
   xs = more x none;
   sized = (good-sized x d (h .2), tt);
   stands = subst (Stands t at) (sym (append-nil (records x))) (h .0);
   many = refl;
-  rest =
-      let e : length (bytes (lay x SingleLine w 0 c)) ≡ 0 + (span x + 0) = omega (arith, (single x w 0 c) .0) in
-      let f : q ≡ at + length (records x ++ recordsOf none) = h .1 ∙ ap (λ (r : List ℕ). at + length r) (sym (append-nil (records x))) in
-      rw (e, f) (ap (λ (b : Bool). cond b (Yes (at + length (records x ++ recordsOf none)) (0 + (span x + 0))) No)
-      (leb-same (c + cost x) w (0 + (cost x + 0)) (w - c) (λ g. omega arith) (λ g. omega arith)));
+  rest = leb-same (c + cost x) w (cost x + 0) (w - c) (λ g. omega arith) (λ g. omega arith);
 }
 
-pub due-begin : (t : List ℕ) (d at w c : ℕ) → Bytes t → at ≤ length t → Right (treeAt t true d at) → c ≤ w → Due t at 1 (w - c) 0 (fitOf (treeAt t true d at) w c)
-due-begin t d at w c hb ha r l = due-of t d at w c (treeAt t true d at) (tree-holds t hb true d at ha) r l
+pub due-begin : (t : List ℕ) (d at w c : ℕ) → Bytes t → at ≤ length t → Right (treeAt t true d at) → c ≤ w → Due t at 1 (w - c) (fits w c (treeOf (treeAt t true d at)))
+due-begin t d at w c hb ha r l = due-of t d at w c (treeAt t true d at) ha (tree-holds t hb true d at ha) r l
 
 -- the column is past the width
-pub due-past : (t : List ℕ) (d at w c : ℕ) → w < c → No ≡ fitOf (treeAt t true d at) w c
-due-past t d at w c h = rw (lt-leb (c + cost (treeOf (treeAt t true d at))) w (omega arith)) refl
+pub due-past : (x : Tree) (w c : ℕ) → w < c → false ≡ fits w c x
+due-past x w c h = sym (lt-leb (c + cost x) w (omega arith))
 
--- after a record of the cost k and of b bytes
-record Turn (t : List ℕ) (p due left len k b size m : ℕ) (answer : Fit) : Type 0 where
+-- where a tree is due, its entry was read, and the trees in it come due in its place
+record Turn (t : List ℕ) (p due left : ℕ) (e : Entry) (answer : Bool) : Type 0 where
+  k : ℕ
+  size : ℕ
+  m : ℕ
+  is : e ≡ Is k size m
+  within : p + size ≤ length t
   xs : Trees
   sized : Sizeds xs
   stands : Stands t (p + size) (recordsOf xs)
   many : count xs ≡ due - 1 + m
-  rest : answer ≡ decided (p + size) left (len + b) k xs
+  rest : answer ≡ leb (k + costs xs) left
 
-turn-of : (t : List ℕ) (p due left len : ℕ) (answer : Fit) (e : Entry) (xs : Trees) → Sizeds xs → Stands t p (recordsOf xs) → count xs ≡ due → answer ≡ decided p left len 0 xs → p ≤ length t → 0 < due
-    → e ≡ entryOf t p (recordAt t p) → (k b size m : ℕ) → e ≡ Is k b size m → Turn t p due left len k b size m answer
-unfolding Sized records cost span
-turn-of t p due left len answer e none g s c r hp hd ee k b size m ek = absurd (omega arith)
-turn-of t p due left len answer e (more x xs) g s c r hp hd ee k b size m ek =
-    let sx = stands-left t p (records x) (recordsOf xs) s in
-    let is : Is k b size m ≡ Is (ownCost x) (ownSpan x) (length (own x)) (count (kids x)) = sym ek ∙ ee ∙ entry-own x t p (g .0) hp sx in
-    let e0 : ownCost x ≡ k = cc in
-    let e1 : ownSpan x ≡ b = cc in
-    let e2 : length (own x) ≡ size = cc in
-    let e3 : count (kids x) ≡ m = cc in
+turn-of : (t : List ℕ) (p due left : ℕ) (answer : Bool) (e : Entry) (xs : Trees) → Sizeds xs → Stands t p (recordsOf xs) → count xs ≡ due → answer ≡ leb (costs xs) left → p ≤ length t → 0 < due
+    → Entered t p (recordAt t p) e → Turn t p due left e answer
+unfolding Sized records cost
+turn-of t p due left answer e none g s c r hp hd ee = absurd (omega arith)
+turn-of t p due left answer e (more x xs) g s c r hp hd ee =
     let ys : Trees = app (kids x) xs in
     let both : records x ++ recordsOf xs ≡ own x ++ recordsOf ys =
     ap (λ (r : List ℕ). r ++ recordsOf xs) (records-own x) ∙ append-assoc (own x) (recordsOf (kids x)) (recordsOf xs) ∙ ap (λ (r : List ℕ). own x ++ r) (sym (records-app (kids x) xs)) in
-    let o = sums-own x in
+    let all : Stands t p (own x ++ recordsOf ys) = subst (Stands t p) both s in
     let a = sums-app (kids x) xs in
     record {
+      k = ownCost x;
+      size = length (own x);
+      m = count (kids x);
+      is = entered-of t p _ _ _ (recordAt t p) e (entry-own x t p (g .0) hp (stands-left t p (records x) (recordsOf xs) s)) ee;
+      within = stands-length t p (own x) hp (stands-left t p (own x) (recordsOf ys) all);
       xs = ys;
       sized = sized-app (kids x) xs (kids-sized x (g .0)) (g .1);
-      stands = subst (λ (j : ℕ). Stands t (p + j) (recordsOf ys)) e2 (stands-right t p (own x) (recordsOf ys) (subst (Stands t p) both s));
-      many = omega (arith, a .2);
-      rest =
-          let c1 : 0 + (cost x + costs xs) ≡ k + costs ys = omega (arith, o .0, a .0) in
-          let c2 : len + (span x + spans xs) ≡ len + b + spans ys = omega (arith, o .1, a .1) in
-          let c3 : p + length (records x ++ recordsOf xs) ≡ p + size + length (recordsOf ys) = omega (arith, ap length both ∙ length-append (own x) (recordsOf ys)) in
-          r ∙ rw (c1, c2, c3) refl;
+      stands = stands-right t p (own x) (recordsOf ys) all;
+      many = omega (arith, a .1);
+      rest = let sum : cost x + costs xs ≡ ownCost x + costs ys = omega (arith, cost-own x, a .0) in r ∙ ap (λ (j : ℕ). leb j left) sum;
     }
 
-module _ (t : List ℕ) (p due left len : ℕ) (answer : Fit) (e : Entry) (h : Due t p due left len answer) (hp : p ≤ length t) (hd : 0 < due) (ee : e ≡ entryOf t p (recordAt t p)) where
-  turn : (k b size m : ℕ) → e ≡ Is k b size m → Turn t p due left len k b size m answer
-  turn = turn-of t p due left len answer e (h .xs) (h .sized) (h .stands) (h .many) (h .rest) hp hd ee
+module _ (t : List ℕ) (p due left : ℕ) (answer : Bool) (e : Entry) (h : Due t p due left answer) (hd : 0 < due) (ee : Entered t p (recordAt t p) e) where
+  turn : Turn t p due left e answer
+  turn = turn-of t p due left answer e (h .xs) (h .sized) (h .stands) (h .many) (h .rest) (h .within) hd ee
 
-  pub due-step : (k b size m : ℕ) → e ≡ Is k b size m → k ≤ left → Due t (p + size) (due - 1 + m) (left - k) (len + b) answer
-  due-step k b size m ek l =
-      let u = turn k b size m ek in
-      let v : ℕ = costs (u .xs) in
+  pub due-step : (k size m : ℕ) → e ≡ Is k size m → k ≤ left → Due t (p + size) (due - 1 + m) (left - k) answer
+  due-step k size m ek l =
+      let u = turn in
+      let is : Is (u .k) (u .size) (u .m) ≡ Is k size m = sym (u .is) ∙ ek in
+      let e0 : u .k ≡ k = cc in
+      let e1 : u .size ≡ size = cc in
+      let e2 : u .m ≡ m = cc in
       record {
+        within = omega (arith, u .within);
         xs = u .xs;
         sized = u .sized;
-        stands = u .stands;
-        many = u .many;
-        rest = u .rest ∙ ap (λ (z : Bool). cond z (Yes (p + size + length (recordsOf (u .xs))) (len + b + spans (u .xs))) No)
-            (leb-same (k + v) left (0 + v) (left - k) (λ g. omega arith) (λ g. omega arith));
+        stands = subst (λ (j : ℕ). Stands t (p + j) (recordsOf (u .xs))) e1 (u .stands);
+        many = u .many ∙ ap (λ (j : ℕ). due - 1 + j) e2;
+        rest = u .rest ∙ leb-same (u .k + costs (u .xs)) left (costs (u .xs)) (left - k) (λ g. omega arith) (λ g. omega arith);
       }
 
-  pub due-stop : (k b size m : ℕ) → e ≡ Is k b size m → left < k → No ≡ answer
-  due-stop k b size m ek l = let u = turn k b size m ek in sym (u .rest ∙ rw (lt-leb (k + costs (u .xs)) left (omega arith)) refl)
+  pub due-stop : (k size m : ℕ) → e ≡ Is k size m → left < k → false ≡ answer
+  due-stop k size m ek l =
+      let u = turn in
+      let is : Is (u .k) (u .size) (u .m) ≡ Is k size m = sym (u .is) ∙ ek in
+      let e0 : u .k ≡ k = cc in
+      sym (u .rest ∙ lt-leb (u .k + costs (u .xs)) left (omega arith))
 
-bad-of : (t : List ℕ) (p : ℕ) (xs : Trees) → 0 < count xs → Sizeds xs → Stands t p (recordsOf xs) → p ≤ length t → NoEntry ≡ entryOf t p (recordAt t p) → ⊥
-unfolding Sized records
-bad-of t p none c g s hp e = omega arith
-bad-of t p (more x xs) c g s hp e =
-    let k : NoEntry ≡ Is (ownCost x) (ownSpan x) (length (own x)) (count (kids x)) = e ∙ entry-own x t p (g .0) hp (stands-left t p (records x) (recordsOf xs) s) in
-    let z : _≡_ {A = ℕ} 0 1 = cc in omega arith
+  pub due-bad : e ≡ NoEntry → false ≡ answer
+  due-bad eb = let u = turn in let b : NoEntry ≡ Is (u .k) (u .size) (u .m) = sym eb ∙ u .is in let z : _≡_ {A = ℕ} 0 1 = cc in absurd (omega arith)
 
-pub due-bad : (t : List ℕ) (p due left len : ℕ) (answer : Fit) (e : Entry) → Due t p due left len answer → p ≤ length t → 0 < due → e ≡ entryOf t p (recordAt t p) → e ≡ NoEntry → No ≡ answer
-due-bad t p due left len answer e h hp hd ee eb = absurd (bad-of t p (h .xs) (omega (arith, h .many)) (h .sized) (h .stands) hp (sym eb ∙ ee))
+none-of : (left : ℕ) (xs : Trees) → count xs ≡ 0 → true ≡ leb (costs xs) left
+unfolding cost
+none-of left none e = sym (le-leb 0 left (omega arith))
+none-of left (more x xs) e = absurd (omega arith)
 
-none-of : (p left len : ℕ) (xs : Trees) → count xs ≡ 0 → Yes p len ≡ decided p left len 0 xs
-unfolding records cost span
-none-of p left len none e = let a : p + 0 ≡ p = omega arith in let b : len + 0 ≡ len = omega arith in rw (le-leb 0 left (omega arith), a, b) refl
-none-of p left len (more x xs) e = absurd (omega arith)
-
-pub due-none : (t : List ℕ) (p due left len : ℕ) (answer : Fit) → Due t p due left len answer → due ≤ 0 → Yes p len ≡ answer
-due-none t p due left len answer h hd = none-of p left len (h .xs) (omega (arith, h .many)) ∙ sym (h .rest)
+pub due-none : (t : List ℕ) (p due left : ℕ) (answer : Bool) → Due t p due left answer → due ≤ 0 → true ≡ answer
+due-none t p due left answer h hd = none-of left (h .xs) (omega (arith, h .many)) ∙ sym (h .rest)

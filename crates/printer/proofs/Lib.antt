@@ -4,6 +4,7 @@ pub mod Singles
 pub mod Entries
 pub mod Dues
 pub mod Rooms
+pub mod Blocks
 pub mod Spaces
 pub mod Bounds
 pub mod Laying

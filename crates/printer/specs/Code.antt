@@ -15,9 +15,6 @@ use Rattle.table.specs.Decoding.{Found, found, refused, treeAt}
 use Rattle.printer.specs.Layout.{Put, Wrapping, Wrap, SingleLine, bytes, column, next, back, put, lay, fits, wrapped}
 use Rattle.printer.specs.declared.cost.Entry.{Entry}
 use Rattle.printer.specs.declared.cost.Entry.the-variants.{Is, Bad as NoEntry}
-use Rattle.printer.specs.declared.cost.Fit.{Fit}
-use Rattle.printer.specs.declared.cost.Fit.the-variants.{Yes, No}
-use Rattle.printer.specs.declared.Choice.{Choice}
 
 abbrev pub Right : {A : Type 0} → Found A → Type 0
 Right (found x q) = Unit {0}
@@ -40,17 +37,30 @@ abbrev pub around : ℕ → ℕ
 around zero = 2
 around (suc n) = suc n + 1
 
--- a record's cost, the bytes that it takes on a single line, its length, and the trees that come due with it
+-- what a record adds to the cost, its length, and the trees that come due with it
 abbrev pub entryOf : List ℕ → ℕ → Record → Entry
-entryOf t at (Symbol len) = Is (len - 6) (len - 6) len 0
-entryOf t at Integer = Is (length (decimalOf (integerAt t (at + 6)))) (length (decimalOf (integerAt t (at + 6)))) 22 0
-entryOf t at (Binding len) = Is (len - 3) (len - 3) len 1
-entryOf t at (ListOf n) = Is (n + 1) (around n) 10 n
+entryOf t at (Symbol len) = Is (len - 6) len 0
+entryOf t at Integer = Is (length (decimalOf (integerAt t (at + 6)))) 22 0
+entryOf t at (Binding len) = Is (len - 3) len 1
+entryOf t at (ListOf n) = Is (n + 1) 10 n
 entryOf t at Bad = NoEntry
 
--- a tree that fits: the place past it, and the bytes that it takes on a single line
-abbrev pub fitOf : Found Tree → ℕ → ℕ → Fit
-fitOf y w c = cond (fits w c (treeOf y)) (Yes (nextOf y) (length (bytes (lay (treeOf y) SingleLine w 0 c)))) No
+-- a walk from entry to entry goes forward, from a place within the table, by numbers of four bytes
+abbrev pub Forward : List ℕ → ℕ → Entry → Type 0
+Forward t at (Is k n m) = (6 ≤ n) × (at < length t) × (n < 4294967296) × (m < 4294967296)
+Forward t at NoEntry = Unit {0}
+
+-- the entry of a record that is not bad; of a bad one only that the walk ends
+abbrev pub Entered : List ℕ → ℕ → Record → Entry → Type 0
+Entered t at r e = Forward t at e × ((r ≡ Bad → ⊥) → e ≡ entryOf t at r)
+
+-- the length of a symbol's record, or 0 of any other
+abbrev pub named-len : Record → ℕ
+named-len (Symbol len) = len
+named-len Integer = 0
+named-len (Binding len) = 0
+named-len (ListOf n) = 0
+named-len Bad = 0
 
 -- a room that has the bytes o holds them at its front afterwards; a shorter one may hold anything
 abbrev pub Filled : List ℕ → List ℕ → List ℕ → Type 0
@@ -60,21 +70,19 @@ Filled o b b′ = length o ≤ length b → b′ ≡ over o b
 abbrev pub Laid : Found Tree → Wrapping → ℕ → ℕ → ℕ → ℕ → ℕ → ℕ → Type 0
 Laid y m w i c q len col = (q ≡ nextOf y) × (len ≡ length (bytes (lay (treeOf y) m w i c))) × (col ≡ column (lay (treeOf y) m w i c))
 
--- before a list: a tree that fits into the line and not into the room of k bytes is done, and any other is laid in the mode that is named
-abbrev pub Chosen : Found Tree → Wrapping → ℕ → ℕ → ℕ → Choice → Type 0
-Chosen y m w c k r =
-    (r .done ≡ true → (k < r .len) × ((i : ℕ) (xs : Trees) → treeOf y ≡ list xs → Laid y m w i c (r .next) (r .len) (c + r .len)))
-    × (r .done ≡ false → r .inside ≡ wrapped m w c (treeOf y))
+-- a tree on a single line: the bytes that it takes, at the front of a room
+abbrev pub Lined : Tree → ℕ → ℕ → ℕ → ℕ → List ℕ → List ℕ → Type 0
+Lined x w i c len b b′ = (len ≡ length (bytes (lay x SingleLine w i c))) × Filled (bytes (lay x SingleLine w i c)) b b′
 
 -- the closing parenthesis and what stands before it
 abbrev pub closing : Bool → Wrapping → ℕ → ℕ → Put
 closing first m i c = next (back first m i c) (put (41 ∷ []))
 
 -- where a tree may be laid: in a checked table, and the numbers are small
-abbrev pub Ready : List ℕ → ℕ → ℕ → Wrapping → ℕ → ℕ → ℕ → Type 0
-Ready t d at m w i c =
+abbrev pub Ready : List ℕ → ℕ → ℕ → ℕ → ℕ → ℕ → Type 0
+Ready t d at w i c =
     (at ≤ length t) × (length t ≤ tableLimit) × (i + d ≤ depthLimit) × Right (treeAt t true d at)
-    × (c + length (bytes (lay (treeOf (treeAt t true d at)) m w i c)) ≤ 4294967296)
+    × (c + length (bytes (lay (treeOf (treeAt t true d at)) Wrap w i c)) ≤ 4294967296)
 
 -- the LF between two trees; a tree and its LF, behind it
 abbrev pub between : Bool → List ℕ

@@ -1,3 +1,4 @@
 pub mod Layout
 pub mod Printing
 pub mod Code
+pub mod Measuring

@@ -1,82 +1,68 @@
 // The cost of a tree, against what is left of the line.
-use table::Record;
 ghost use mathlib.Core.Path.{_≡_};
 ghost use mathlib.Core.Bool.{true};
-ghost use Prim.Native.Nat.{ℕ, _≤_};
+ghost use Prim.Native.Nat.{ℕ, _+_, _≤_};
 ghost use lib.ListN.{length};
+ghost use Rattle.refusals.specs.Numbers.{tableLimit};
 ghost use Rattle.table.specs.Records.{recordAt};
 ghost use Rattle.table.specs.Decoding.{treeAt};
-ghost use Rattle.printer.specs.Code.{Right, entryOf, fitOf};
+ghost use Rattle.printer.specs.Layout.{fits as fitsOf};
+ghost use Rattle.printer.specs.Code.{Right, treeOf, Entered};
 
 pub enum Entry {
-    // A record's cost, its bytes on a single line, its length, and the trees that come due with it.
-    Is(usize, usize, usize, usize),
+    // A record's cost, its length, and the trees that come due with it.
+    Is(usize, usize, usize),
     Bad,
 }
 
+// What the record at `at` of a checked table adds to the cost. Of a bad one it says anything, but goes on past it or says that it is bad.
 fn entry_at(t: &[u8], at: usize) -> Entry
-    ensures { λ r. ⌜ r ≡ entryOf (now (t .entry)) at (recordAt (now (t .entry)) at) ⌝ }
+    requires { ⌜ (at ≤ tableLimit + 4294967295) ⌝ }
+    ensures { λ r. ⌜ Entered (now (t .entry)) at (recordAt (now (t .entry)) at) r ⌝ }
 {
-    let node = table::record_at(t, at);
-    match node {
-        Record::Bad => Entry::Bad,
-        Record::Symbol(len) => {
-            let n = len - 6;
-            Entry::Is(n, n, len, 0)
-        }
-        Record::Integer => {
-            let n = wide::decimal_len(wide::wide_at(t, at + 6));
-            Entry::Is(n, n, 22, 0)
-        }
-        Record::Binding(len) => {
-            let n = len - 3;
-            Entry::Is(n, n, len, 1)
-        }
-        Record::List(n) => {
-            // An empty list costs 1 and takes 2 bytes.
-            if n == 0 {
-                return Entry::Is(1, 2, 10, 0);
-            }
-            let k = n + 1;
-            Entry::Is(k, k, 10, n)
-        }
+    let len = wide::u32_at(t, at);
+    if len < 6 {
+        return Entry::Bad;
     }
-}
-
-pub enum Fit {
-    // The place past the tree, and the bytes that it takes.
-    Yes(usize, usize),
-    No,
+    let kind = wide::u16_at(t, at + 4);
+    if kind == 1 {
+        return Entry::Is(len - 6, len, 0);
+    }
+    if kind == 4 {
+        let n = wide::u32_at(t, at + 6);
+        return Entry::Is(n + 1, len, n);
+    }
+    if kind == 3 {
+        return Entry::Is(len - 3, len, 1);
+    }
+    Entry::Is(wide::decimal_len(wide::wide_at(t, at + 6)), len, 0)
 }
 
 // Whether the tree at `at` fits: its records are walked with a count of the trees still due, up to the first that costs too much.
-pub fn fits(t: &[u8], at: usize, width: usize, column: usize) -> Fit
+pub fn fits(t: &[u8], at: usize, width: usize, column: usize) -> bool
     requires { ⌜ (at ≤ length (now t)) × (length (now t) ≤ 16777216) ⌝ }
-    ensures { λ r. ⌜ ((d : ℕ) → Right (treeAt (now (t .entry)) true d at) → r ≡ fitOf (treeAt (now (t .entry)) true d at) width column) ⌝ }
+    ensures { λ r. ⌜ ((d : ℕ) → Right (treeAt (now (t .entry)) true d at) → r ≡ fitsOf width column (treeOf (treeAt (now (t .entry)) true d at))) ⌝ }
 {
     if width < column {
-        return Fit::No;
+        return false;
     }
     let mut left = width - column;
     let mut p = at;
     let mut due = 1;
-    let mut len = 0;
     while 0 < due {
-        let entry = entry_at(t, p);
-        match entry {
+        match entry_at(t, p) {
             Entry::Bad => {
-                return Fit::No;
+                return false;
             }
-            Entry::Is(cost, taken, size, more) => {
+            Entry::Is(cost, size, more) => {
                 if left < cost {
-                    return Fit::No;
+                    return false;
                 }
                 left = left - cost;
                 p = p + size;
                 due = due - 1 + more;
-                len = len + taken;
             }
         }
     }
-    Fit::Yes(p, len)
+    true
 }

@@ -1,9 +1,11 @@
-// The layout of a table at a width, a port of the crate's `Printer`: laid once into a room of no bytes to measure it, then into the room lent.
+// The layout of a table at a width, a port of the crate's `Printer`: checked and measured in one walk, then laid into the room lent.
 mod cost;
+mod flat;
 mod gaps;
+mod measure;
 mod room;
 
-use cost::Fit;
+use measure::Measured;
 use refusals::Refusal;
 use table::Record;
 ghost use mathlib.Core.Path.{_≡_};
@@ -14,9 +16,9 @@ ghost use lib.ListN.{length};
 ghost use Rattle.refusals.specs.Numbers.{depthLimit};
 ghost use Rattle.table.specs.Records.{payload};
 ghost use Rattle.table.specs.Decoding.{treeAt, tableOf};
-ghost use Rattle.printer.specs.Layout.{bytes, named, lay, page};
+ghost use Rattle.printer.specs.Layout.{Wrap, bytes, named, lay, page};
 ghost use Rattle.printer.specs.Printing.{printing, printedInto, printOf};
-ghost use Rattle.printer.specs.Code.{Right, treeOf, treesOf, nextOf, Filled, Laid, Chosen, Ready, between, framed};
+ghost use Rattle.printer.specs.Code.{Right, treeOf, treesOf, nextOf, Filled, Laid, Ready, between, framed};
 
 // A list is laid on a single line, or tested.
 pub enum Wrapping {
@@ -28,47 +30,6 @@ pub enum Printed {
     // The bytes written.
     Text(usize),
     Refused(Refusal),
-}
-
-struct Choice {
-    // The tree fits into the line, and not into the room: only its size is asked for.
-    done: bool,
-    next: usize,
-    len: usize,
-    // Otherwise, how its items are laid.
-    inside: Wrapping,
-}
-
-// The mode of the list at `at`. Inside a list that fitted nothing is tested again.
-fn choose(t: &[u8], at: usize, mode: Wrapping, width: usize, column: usize, room: usize) -> Choice
-    requires { ⌜ (at ≤ length (now t)) × (length (now t) ≤ 16777216) ⌝ }
-    ensures { λ r. ⌜ ((d : ℕ) → Right (treeAt (now (t .entry)) true d at) → Chosen (treeAt (now (t .entry)) true d at) mode width column room r) ⌝ }
-{
-    match mode {
-        Wrapping::SingleLine => Choice {
-            done: false,
-            next: at,
-            len: 0,
-            inside: Wrapping::SingleLine,
-        },
-        Wrapping::Wrap => {
-            let fit = cost::fits(t, at, width, column);
-            match fit {
-                Fit::No => Choice {
-                    done: false,
-                    next: at,
-                    len: 0,
-                    inside: Wrapping::Wrap,
-                },
-                Fit::Yes(next, len) => Choice {
-                    done: room < len,
-                    next,
-                    len,
-                    inside: Wrapping::SingleLine,
-                },
-            }
-        }
-    }
 }
 
 // The name of the binding whose record of `len` bytes stands at `at`, and ` @ `.
@@ -99,20 +60,19 @@ struct Done {
     column: usize,
 }
 
-// The tree at `at` of a checked table, at the front of a room that has the bytes or is too short: then it is only measured.
+// The tree at `at` of a checked table. A list that fits is on a single line, with all inside it; any other has its items tested in turn.
 fn print_wrapped(
     t: &[u8],
     at: usize,
     depth: usize,
-    mode: Wrapping,
     width: usize,
     indent: usize,
     column: usize,
     out: &mut [u8],
 ) -> Done
-    requires { ⌜ Ready (now t) depth at mode width indent column ⌝ }
-    ensures { λ r. ⌜ Laid (treeAt (now (t .entry)) true depth at) mode width indent column (r .next) (r .len) (r .column)
-        × Filled (bytes (lay (treeOf (treeAt (now (t .entry)) true depth at)) mode width indent column)) (now (out .entry)) (now (out .exit)) ⌝ }
+    requires { ⌜ Ready (now t) depth at width indent column ⌝ }
+    ensures { λ r. ⌜ Laid (treeAt (now (t .entry)) true depth at) Wrap width indent column (r .next) (r .len) (r .column)
+        × Filled (bytes (lay (treeOf (treeAt (now (t .entry)) true depth at)) Wrap width indent column)) (now (out .entry)) (now (out .exit)) ⌝ }
 {
     let node = table::record_at(t, at);
     match node {
@@ -146,7 +106,6 @@ fn print_wrapped(
                 t,
                 at + len,
                 depth - 1,
-                mode,
                 width,
                 indent,
                 column + k,
@@ -159,29 +118,27 @@ fn print_wrapped(
             }
         }
         Record::List(n) => {
-            let choice = choose(t, at, mode, width, column, out.len());
-            if choice.done {
+            if cost::fits(t, at, width, column) {
+                let whole = flat::print_flat(t, at, depth, out);
                 return Done {
-                    next: choice.next,
-                    len: choice.len,
-                    column: column + choice.len,
+                    next: whole.next,
+                    len: whole.len,
+                    column: column + whole.len,
                 };
             }
-            let inside = choice.inside;
             let mut w = room::put_byte(b'(', out);
             let mut p = at + 10;
             let mut c = column + 1;
             let mut i = 0;
             while i < n {
                 let from = room::least(w, out.len());
-                let g = gaps::put_gap(i == 0, inside, indent, c, &mut out[from..]);
+                let g = gaps::put_gap(i == 0, Wrapping::Wrap, indent, c, &mut out[from..]);
                 let k = w + g.len;
                 let rest = room::least(k, out.len());
                 let item = print_wrapped(
                     t,
                     p,
                     depth - 1,
-                    inside,
                     width,
                     g.indent,
                     g.column,
@@ -193,7 +150,7 @@ fn print_wrapped(
                 i += 1;
             }
             let rest = room::least(w, out.len());
-            let end = gaps::put_close(n == 0, inside, indent, c, &mut out[rest..]);
+            let end = gaps::put_close(n == 0, Wrapping::Wrap, indent, c, &mut out[rest..]);
             Done {
                 next: p,
                 len: w + end.len,
@@ -227,16 +184,7 @@ fn print_node(t: &[u8], at: usize, width: usize, out: &mut [u8]) -> Line
 {
     let w = put_between(0 < at, out);
     let rest = room::least(w, out.len());
-    let tree = print_wrapped(
-        t,
-        at,
-        refusals::DEPTH_LIMIT,
-        Wrapping::Wrap,
-        width,
-        0,
-        0,
-        &mut out[rest..],
-    );
+    let tree = print_wrapped(t, at, refusals::DEPTH_LIMIT, width, 0, 0, &mut out[rest..]);
     let end = w + tree.len;
     let last = room::least(end, out.len());
     let k = room::put_byte(b'\n', &mut out[last..]);
@@ -269,12 +217,9 @@ pub fn print(table: &[u8], width: u32, out: &mut [u8]) -> Printed
         × (now (out .exit) ≡ printedInto (now (table .entry)) width (now (out .entry))) ⌝ }
 {
     let columns = width as usize;
-    let checked = table::check(table, true);
-    match checked {
-        table::Checked::Refused(r) => Printed::Refused(r),
-        table::Checked::Good => {
-            let none = 0;
-            let n = print_trees(table, columns, &mut out[..none]);
+    match measure::measure(table, columns) {
+        Measured::Refused(r) => Printed::Refused(r),
+        Measured::Bytes(n) => {
             if out.len() < n {
                 return Printed::Refused(Refusal {
                     number: refusals::PRINT_ROOM,

@@ -1,35 +1,58 @@
 -- `printer::cost::entry_at`: one line for each kind of record.
-use mathlib.Core.Path.{refl, ap, sym, _∙_}
-use Prim.Native.Nat.{ℕ, _+_}
+use mathlib.Core.Path.{refl}
+use Prim.Native.Nat.{_+_}
 use native.Mathlib.Omega.{arith}
 use borrow.Author.Needs.{needs}
-use lib.IntN.{ℤ}
-use lib.ListN.{length}
-use Rattle.wide.specs.Decimal.{decimalOf}
-use Rattle.table.proofs.Reading.{symbol-in, binding-in, integer-in}
-use Rattle.printer.specs.Code.{around}
-use Rattle.printer.specs.declared.cost.Entry.the-variants.{Is}
-use Rattle.printer.proofs.Entries.{list-small, around-more, integer-value, entry-is}
+use Rattle.printer.proofs.Entries.{read-small, none-entered, symbol-entered, list-entered, binding-entered, integer-entered}
 use Rattle.printer.proofs.cost.entry_at.Statement.{statement}
 use Rattle.printer.proofs.cost.entry_at.Tie as tie
 
-record-at-requires : tie.Need-record-at-requires
-record-at-requires c κs = search needs
+u32-at-requires : tie.Need-u32-at-requires
+u32-at-requires c κs = search needs
 
-enum-told : tie.Need-enum-told
-enum-told c = search needs
+returns : tie.Need-returns
+returns c = let l = c .before in none-entered _ _ _ _ (l .u32-at .ensures) refl (c .if1 .taken)
 
-enum-known-node : tie.Need-enum-known-node
-enum-known-node c = search needs
+add-u16-at : tie.Need-add-u16-at
+add-u16-at c = search needs
 
-sub-n : tie.Need-sub-n
-sub-n c = omega (arith, symbol-in _ _ _ _ (c .before .before .before .record-at .ensures) (c .before .node .given .1))
+u16-at-requires : tie.Need-u16-at-requires
+u16-at-requires c κs = search needs
 
-enum-told-2 : tie.Need-enum-told-2
-enum-told-2 c = search needs
+returns-2 : tie.Need-returns-2
+returns-2 c =
+    let k = c .before in
+    let l = k .before .before in
+    symbol-entered _ _ _ _ (l .u32-at .ensures) (k .u16-at .ensures) (c .if2 .taken) (λ i. (l .before .shared-slice-known .given i) .fits) (omega arith)
+
+add-u32-at : tie.Need-add-u32-at
+add-u32-at c = search needs
+
+u32-at-requires-2 : tie.Need-u32-at-requires-2
+u32-at-requires-2 c κs = search needs
+
+add-t9 : tie.Need-add-t9
+add-t9 c =
+    let l = c .before .before .before .before .before in
+    omega (arith, read-small (l .before .before .args .t .now) (l .before .before .args .at + 6) _ (λ i. (l .before .shared-slice-known .given i) .fits) (c .u32-at2 .ensures))
+
+returns-3 : tie.Need-returns-3
+returns-3 c =
+    let k = c .before .before .before in
+    let l = k .before .before in
+    list-entered _ _ _ _ (l .u32-at .ensures) (k .u16-at .ensures) _ (c .u32-at2 .ensures) (c .before .if3 .taken) (λ i. (l .before .shared-slice-known .given i) .fits) (omega arith)
+
+sub-t10 : tie.Need-sub-t10
+sub-t10 c = search needs
+
+returns-4 : tie.Need-returns-4
+returns-4 c =
+    let k = c .before .before .before in
+    let l = k .before .before in
+    binding-entered _ _ _ _ (l .u32-at .ensures) (k .u16-at .ensures) (c .if4 .taken) (λ i. (l .before .shared-slice-known .given i) .fits) (omega arith)
 
 add-wide-at : tie.Need-add-wide-at
-add-wide-at c = omega (arith, integer-in _ _ _ (c .before .before .record-at .ensures) (c .enum-told2 .given .1))
+add-wide-at c = search needs
 
 wide-at-requires : tie.Need-wide-at-requires
 wide-at-requires c κs = search needs
@@ -37,48 +60,16 @@ wide-at-requires c κs = search needs
 decimal-len-requires : tie.Need-decimal-len-requires
 decimal-len-requires c κs = search needs
 
-enum-known-node-2 : tie.Need-enum-known-node-2
-enum-known-node-2 c = search needs
-
-sub-n-2 : tie.Need-sub-n-2
-sub-n-2 c = omega (arith, binding-in _ _ _ _ (c .before .before .before .record-at .ensures) (c .before .node2 .given .1))
-
-enum-known-node-3 : tie.Need-enum-known-node-3
-enum-known-node-3 c = search needs
-
-returns : tie.Need-returns
-returns c =
-    let a = c .before .before .before .before in
-    entry-is _ _ _ _ _ (a .record-at .ensures) (c .before .before .node3 .given .1) (ap (λ (n : ℕ). Is (n + 1) (around n) 10 n) (sym (c .if1 .taken)))
-
-add-k : tie.Need-add-k
-add-k c =
-    let a = c .before .before .before .before in
-    omega (arith, list-small _ _ _ _ (λ i. (a .before .shared-slice-known .given i) .fits) (a .record-at .ensures) (c .before .before .node3 .given .1))
-
-returns-2 : tie.Need-returns-2
-returns-2 c = entry-is _ _ _ _ _ (c .before .before .record-at .ensures) (c .enum-told .given .1) refl
-
-returns-3 : tie.Need-returns-3
-returns-3 c = entry-is _ _ _ _ _ (c .before .before .before .record-at .ensures) (c .before .node .given .1) refl
-
-returns-4 : tie.Need-returns-4
-returns-4 c =
-    let a = c .before .before .before .before in
-    let r = c .before .before .enum-told2 .given .1 in
-    let z = integer-value (a .before .before .args .t .now) (a .before .before .args .at) _ (integer-in _ _ _ (a .record-at .ensures) r) (c .before .wide-at .ensures) in
-    entry-is _ _ _ _ _ (a .record-at .ensures) r (ap (λ (k : ℕ). Is k k 22 0) (c .decimal-len .ensures ∙ ap (λ (y : ℤ). length (decimalOf y)) z))
-
 returns-5 : tie.Need-returns-5
-returns-5 c = entry-is _ _ _ _ _ (c .before .before .before .record-at .ensures) (c .before .node2 .given .1) refl
-
-returns-6 : tie.Need-returns-6
-returns-6 c =
-    let n = c .before .before .node3 .given in
-    entry-is _ _ _ _ _ (c .before .before .before .before .record-at .ensures) (n .1) (ap (λ (k : ℕ). Is (n .0 .0 + 1) k 10 (n .0 .0)) (sym (around-more (n .0 .0) (c .if1 .left))))
+returns-5 c =
+    let b = c .before .before in
+    let k = b .before .before .before in
+    let l = k .before .before in
+    integer-entered _ _ _ _ (l .u32-at .ensures) (k .u16-at .ensures) _ _ (c .decimal-len .ensures) (c .before .wide-at .ensures)
+    (b .before .before .if2 .left) (b .before .if3 .left) (b .if4 .left) (λ i. (l .before .shared-slice-known .given i) .fits) (omega arith)
 
 pub entry-at-spec : {M : Type 1} → statement M
 entry-at-spec =
     tie.close
-    (tie.spec record-at-requires enum-told enum-known-node sub-n enum-told-2 add-wide-at wide-at-requires decimal-len-requires enum-known-node-2 sub-n-2
-    enum-known-node-3 returns add-k returns-2 returns-3 returns-4 returns-5 returns-6)
+    (tie.spec u32-at-requires returns add-u16-at u16-at-requires returns-2 add-u32-at u32-at-requires-2 add-t9 returns-3 sub-t10 returns-4 add-wide-at
+    wide-at-requires decimal-len-requires returns-5)

@@ -1,0 +1,257 @@
+// The check of a table and its measure in one walk, before a byte is written: what each tree costs, and the bytes that it takes.
+use refusals::Refusal;
+use table::Record;
+ghost use mathlib.Core.Path.{_≡_};
+ghost use mathlib.Core.Bool.{true};
+ghost use Prim.Native.Nat.{_+_, _≤_, _<_};
+ghost use lib.ListN.{length};
+ghost use Rattle.refusals.specs.Numbers.{tableLimit, depthLimit};
+ghost use Rattle.table.specs.Trees.{isSymbol, list};
+ghost use Rattle.table.specs.Records.{payload};
+ghost use Rattle.table.specs.Decoding.{treeAt, itemsAt, andThen, found, tableOf};
+ghost use Rattle.printer.specs.Measuring.{Sized, Summed};
+
+pub struct Size {
+    // A refusal's number, or 0.
+    pub number: u8,
+    // The place past the tree, or the refusal's.
+    pub place: usize,
+    pub cost: usize,
+    // The empty lists inside: each takes a byte more on a single line than it costs.
+    pub empty: usize,
+    // The bytes as it is laid.
+    pub len: usize,
+}
+
+pub enum Measured {
+    Bytes(usize),
+    Refused(Refusal),
+}
+
+fn stopped(number: u8, place: usize) -> Size
+    ensures { λ r. ⌜ (r .number ≡ number) × (r .place ≡ place) ⌝ }
+{
+    Size {
+        number,
+        place,
+        cost: 0,
+        empty: 0,
+        len: 0,
+    }
+}
+
+// A symbol or an integer of n bytes.
+fn atom(place: usize, n: usize) -> Size
+    ensures { λ r. ⌜ r ≡ record { number = 0; place = place; cost = n; empty = 0; len = n } ⌝ }
+{
+    Size {
+        number: 0,
+        place,
+        cost: n,
+        empty: 0,
+        len: n,
+    }
+}
+
+// The payload of the record of `len` bytes at `at` is a symbol.
+fn is_name(t: &[u8], at: usize, len: usize) -> bool
+    requires { ⌜ (6 ≤ len) × (at + len ≤ length (now t)) ⌝ }
+    ensures { λ r. ⌜ r ≡ isSymbol (payload (now (t .entry)) at len) ⌝ }
+{
+    let start = at + 6;
+    let end = at + len;
+    table::is_symbol(&t[start..end])
+}
+
+// The place past the good symbol at `at`, or `at`.
+fn past_name(t: &[u8], at: usize) -> usize {
+    let node = table::record_at(t, at);
+    match node {
+        Record::Symbol(len) => {
+            if is_name(t, at, len) {
+                return at + len;
+            }
+            at
+        }
+        Record::Bad => at,
+        Record::Integer => at,
+        Record::Binding(_) => at,
+        Record::List(_) => at,
+    }
+}
+
+// Only the lowest integer is refused.
+fn measure_integer(t: &[u8], at: usize) -> Size {
+    let w = wide::wide_at(t, at + 6);
+    if (w.hi == i64::MIN) & (w.lo == 0) {
+        return stopped(refusals::LOWEST, at);
+    }
+    atom(at + 22, wide::decimal_len(w))
+}
+
+// The indent and the column of an item of a list that is wrapped: only the first stays on its line.
+fn inner(first: bool, indent: usize) -> usize {
+    if first {
+        return indent;
+    }
+    indent + 1
+}
+
+fn begins(first: bool, column: usize) -> usize {
+    if first {
+        return column + 1;
+    }
+    0
+}
+
+// The tree at `at`, with `depth` lists and bindings still to be opened; in a record 15, 13, 16, 17.
+fn measure_tree(
+    t: &[u8],
+    at: usize,
+    depth: usize,
+    width: usize,
+    indent: usize,
+    column: usize,
+) -> Size
+    requires { ⌜ (at ≤ length (now t)) × (length (now t) ≤ tableLimit) × (indent + depth ≤ depthLimit) × (column ≤ at) ⌝ }
+    ensures { λ r. ⌜ Sized (treeAt (now (t .entry)) true depth at) width indent column r ⌝ }
+{
+    let node = table::record_at(t, at);
+    match node {
+        Record::Bad => stopped(refusals::BAD_RECORD, at),
+        Record::Symbol(len) => {
+            if is_name(t, at, len) {
+                return atom(at + len, len - 6);
+            }
+            stopped(refusals::BAD_SYMBOL, at)
+        }
+        Record::Integer => measure_integer(t, at),
+        Record::Binding(len) => {
+            if depth == 0 {
+                return stopped(refusals::TOO_DEEP, at);
+            }
+            if is_name(t, at, len) {
+                let n = len - 3;
+                let m = measure_tree(t, at + len, depth - 1, width, indent, column + n);
+                if 0 < m.number {
+                    return stopped(m.number, m.place);
+                }
+                return Size {
+                    number: 0,
+                    place: m.place,
+                    cost: n + m.cost,
+                    empty: m.empty,
+                    len: n + m.len,
+                };
+            }
+            stopped(refusals::BAD_SYMBOL, at)
+        }
+        Record::List(n) => {
+            if depth == 0 {
+                return stopped(refusals::TOO_DEEP, at);
+            }
+            measure_list(t, at + 10, n, depth - 1, width, indent, column)
+        }
+    }
+}
+
+// A list of n items, the first of them at `at`: on a single line where it fits, else wrapped. A symbol takes no call of its own.
+fn measure_list(
+    t: &[u8],
+    at: usize,
+    n: usize,
+    depth: usize,
+    width: usize,
+    indent: usize,
+    column: usize,
+) -> Size
+    requires { ⌜ (at ≤ length (now t)) × (length (now t) ≤ tableLimit) × (indent + 1 + depth ≤ depthLimit) × (column + 1 ≤ at) × (n < 4294967296) ⌝ }
+    ensures { λ r. ⌜ Sized (andThen (itemsAt (treeAt (now (t .entry)) true depth) n at) (λ xs q. found (list xs) q)) width indent column r ⌝ }
+{
+    if n == 0 {
+        return Size {
+            number: 0,
+            place: at,
+            cost: 1,
+            empty: 1,
+            len: 2,
+        };
+    }
+    let mut p = at;
+    let mut i = 0;
+    let mut cost = n + 1;
+    let mut empty = 0;
+    let mut len = 4 * indent + 3;
+    while i < n {
+        let q = past_name(t, p);
+        if p < q {
+            let k = q - p - 6;
+            cost = cost + k;
+            len = len + k;
+            p = q;
+        } else {
+            let m = measure_tree(
+                t,
+                p,
+                depth,
+                width,
+                inner(i == 0, indent),
+                begins(i == 0, column),
+            );
+            if 0 < m.number {
+                return stopped(m.number, m.place);
+            }
+            cost = cost + m.cost;
+            empty = empty + m.empty;
+            len = len + m.len;
+            p = m.place;
+        }
+        i += 1;
+    }
+    if column + cost <= width {
+        return Size {
+            number: 0,
+            place: p,
+            cost,
+            empty,
+            len: cost + empty,
+        };
+    }
+    Size {
+        number: 0,
+        place: p,
+        cost,
+        empty,
+        len: len + (n - 1) * (4 * indent + 5),
+    }
+}
+
+// The bytes of the text of a table, or its refusal: 1, then the first in the order of its records.
+pub fn measure(t: &[u8], width: usize) -> Measured
+    requires { ⌜ width < 4294967296 ⌝ }
+    ensures { λ r. ⌜ Summed (tableOf true (now (t .entry))) width r ⌝ }
+{
+    if refusals::TABLE_LIMIT < t.len() {
+        return Measured::Refused(Refusal {
+            number: refusals::TOO_LONG,
+            place: refusals::TABLE_LIMIT,
+        });
+    }
+    let mut p = 0;
+    let mut w = 0;
+    while p < t.len() {
+        let m = measure_tree(t, p, refusals::DEPTH_LIMIT, width, 0, 0);
+        if 0 < m.number {
+            return Measured::Refused(Refusal {
+                number: m.number,
+                place: m.place,
+            });
+        }
+        if 0 < p {
+            w = w + 1;
+        }
+        w = w + m.len + 1;
+        p = m.place;
+    }
+    Measured::Bytes(w)
+}
