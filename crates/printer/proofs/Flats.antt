@@ -121,12 +121,12 @@ module _ (y : Found Tree) (q len : ℕ) (b b′ : List ℕ) where
       let g = subst (λ (o : List ℕ). (len ≡ length o) × Filled o b b′) (line-is (treeOf y) 0 0 0) (h .1 0 0 0) in
       (h .0, g .0, g .1)
 
-  -- for `print_wrapped`: a list that fits
-  pub flat-laid : (xs : Trees) (w i c : ℕ) → treeOf y ≡ list xs → fits w c (treeOf y) ≡ true → Run y q len b b′
+  -- for `print_wrapped`: a list that fits, as `cost::fits` answers it
+  pub flat-laid : (xs : Trees) (w i c : ℕ) → treeOf y ≡ list xs → (fit : Bool) → fit ≡ fits w c (treeOf y) → fit ≡ true → Run y q len b b′
       → Laid y Wrap w i c q len (c + len) × Filled (bytes (lay (treeOf y) Wrap w i c)) b b′
-  flat-laid xs w i c el ef h =
+  flat-laid xs w i c el fit e e′ h =
       let one : lay (treeOf y) Wrap w i c ≡ lay (treeOf y) SingleLine w i c =
-      subst⁻¹ (λ (x : Tree). fits w c x ≡ true → lay x Wrap w i c ≡ lay x SingleLine w i c) el (alike xs w i c) ef in
+      subst⁻¹ (λ (x : Tree). fits w c x ≡ true → lay x Wrap w i c ≡ lay x SingleLine w i c) el (alike xs w i c) (sym e ∙ e′) in
       let g = h .1 w i c in
       let s = single (treeOf y) w i c in
       rw one ((h .0, g .0, omega (arith, g .0, s .0, s .1)), g .1)
