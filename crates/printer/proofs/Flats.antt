@@ -8,7 +8,7 @@ use native.Mathlib.Omega.{arith}
 use lib.Dec.{eqb}
 use lib.IntN.{ℤ}
 use lib.ListN.{length, length-append, take, drop}
-use borrow.Author.Tests.{le-leb, eq-eqb, ne-eqb}
+use borrow.Author.Tests.{le-leb, ne-eqb}
 use borrow.Rule.Slice.PartMut.{putMid}
 use Rattle.lists.specs.Over.{over, fitted}
 use Rattle.lists.proofs.Writing.{Wrote}

@@ -3,28 +3,19 @@ use borrow.Author.Needs.{needs}
 use Rattle.printer.proofs.Flats.{symbol-yes, symbol-no}
 use Rattle.printer.proofs.flat.symbol_at.Statement.{statement}
 use Rattle.printer.proofs.flat.symbol_at.Tie as tie
-use Rattle.printer.proofs.flat.symbol_at.Reads as reads
-use Rattle.printer.proofs.flat.symbol_at.Lts as lts
-use Rattle.wide.proofs.u16_at.Reads as u16-at-reads
-use Rattle.wide.proofs.u32_at.Reads as u32-at-reads
 
--- src/flat.rt:27:24
 add-u16-at : tie.Need-add-u16-at
 add-u16-at c = search needs
 
--- src/flat.rt:27:8
 u16-at-requires : tie.Need-u16-at-requires
 u16-at-requires c κs = search needs
 
--- src/flat.rt:28:9
 u32-at-requires : tie.Need-u32-at-requires
 u32-at-requires c κs = search needs
 
--- src/flat.rt:28:9
 returns : tie.Need-returns
 returns c = symbol-yes _ _ _ (c .before .before .u16-at .ensures) (c .before .if1 .taken) _ (c .u32-at .ensures)
 
--- src/flat.rt:23:1
 returns-2 : tie.Need-returns-2
 returns-2 c = symbol-no _ _ _ (c .before .u16-at .ensures) (c .if1 .left)
 
