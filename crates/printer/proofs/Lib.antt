@@ -8,4 +8,5 @@ pub mod Blocks
 pub mod Spaces
 pub mod Bounds
 pub mod Laying
+pub mod Flats
 pub mod Pages

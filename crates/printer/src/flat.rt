@@ -8,7 +8,8 @@ ghost use Prim.Native.Nat.{ℕ, _≤_};
 ghost use lib.ListN.{length};
 ghost use Rattle.refusals.specs.Numbers.{tableLimit, depthLimit};
 ghost use Rattle.table.specs.Decoding.{treeAt};
-ghost use Rattle.table.specs.Records.{Bad, recordAt};
+ghost use Rattle.table.specs.declared.Record.the-variants.{Bad};
+ghost use Rattle.table.specs.Records.{recordAt};
 ghost use Rattle.printer.specs.Code.{Right, treeOf, nextOf, Lined, named-len};
 
 pub struct Run {
