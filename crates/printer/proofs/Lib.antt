@@ -7,4 +7,5 @@ pub mod Rooms
 pub mod Spaces
 pub mod Bounds
 pub mod Laying
+pub mod Breaks
 pub mod Pages
