@@ -12,7 +12,7 @@ use Rattle.table.specs.Trees.{Tree, Trees, symbol, list, none}
 use Rattle.table.specs.declared.Record.{Record}
 use Rattle.table.specs.declared.Record.the-variants.{Symbol, Integer, Binding, List as ListOf, Bad}
 use Rattle.table.specs.Decoding.{Found, found, refused, treeAt}
-use Rattle.printer.specs.Layout.{Put, Wrapping, Wrap, SingleLine, bytes, column, next, back, put, lay, fits, wrapped}
+use Rattle.printer.specs.Layout.{Put, Wrapping, Wrap, SingleLine, bytes, next, back, put, lay}
 use Rattle.printer.specs.declared.cost.Entry.{Entry}
 use Rattle.printer.specs.declared.cost.Entry.the-variants.{Is, Bad as NoEntry}
 

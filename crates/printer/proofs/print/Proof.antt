@@ -1,5 +1,4 @@
 -- `printer::print`: measured, and then written where the room is enough.
-use native.Mathlib.Omega.{arith}
 use mathlib.Core.Bool.{true}
 use Rattle.table.specs.Decoding.{tableOf}
 use Rattle.printer.proofs.Pages.{print-right, print-no, print-short, print-text}
