@@ -9,9 +9,7 @@ use Rattle.classes.specs.Classes.{classOf, semicolon}
 use Rattle.lexer.specs.Streams.{tokensOf}
 use Rattle.lexer.specs.Said.{close-paren, Said, the-end, says, said}
 use Rattle.table.specs.Trees.{Tree, Trees, symbol, integer, binding, list, none, more, isSymbol, spoken, spokens}
-use Rattle.printer.specs.declared.Wrapping.{Wrapping}
-use Rattle.printer.specs.declared.Wrapping.the-variants.{Wrap, SingleLine}
-use Rattle.printer.specs.Layout.{bytes, column, gap, inner, back, wrapped, named, lay, items, pageFrom, page}
+use Rattle.printer.specs.Layout.{Wrapping, Wrap, SingleLine, bytes, column, gap, inner, back, wrapped, named, lay, items, pageFrom, page}
 use Rattle.lists.proofs.Choice.{true-false}
 use Rattle.demands.proofs.Spelling.{starts}
 use Rattle.demands.proofs.Rests.{Sep, space, line, close, Clear, first-byte, Tells, tells-end, tells-symbol, tells-integer, tells-open, tells-close, tells-at, tells-space, tells-line, tells-spaces, whole}

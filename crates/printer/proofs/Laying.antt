@@ -18,7 +18,7 @@ use Rattle.table.specs.Records.{payload}
 use Rattle.table.proofs.Checking.{part}
 use Rattle.table.specs.Decoding.{Found, found, itemsAt, treeAt}
 use Rattle.printer.specs.Layout.{Wrapping, Put, bytes, column, put, next, named, wrapped, gap, inner, lay, items}
-use Rattle.printer.specs.Code.{Right, treeOf, treesOf, nextOf, Filled, Laid, closing}
+use Rattle.printer.specs.Code.{Right, treeOf, treesOf, nextOf, Filled, closing}
 use Rattle.printer.proofs.Founds.{Made, found-end}
 use Rattle.printer.proofs.Goings.{Going, going-begin, going-item, going-step, going-end}
 use Rattle.printer.proofs.Bounds.{gap-col, lay-col, inner-le}
@@ -26,7 +26,8 @@ use Rattle.printer.proofs.Rooms.{wrote-whole, wrote-rest}
 
 -- the answer on what is found, and the room
 abbrev pub Output : Found Tree → Wrapping → ℕ → ℕ → ℕ → ℕ → ℕ → ℕ → List ℕ → List ℕ → Type 0
-Output y m w i c q len col b b′ = Laid y m w i c q len col × Filled (bytes (lay (treeOf y) m w i c)) b b′
+Output y m w i c q len col b b′ =
+    ((q ≡ nextOf y) × (len ≡ length (bytes (lay (treeOf y) m w i c))) × (col ≡ column (lay (treeOf y) m w i c))) × Filled (bytes (lay (treeOf y) m w i c)) b b′
 
 -- ---- atoms
 

@@ -9,4 +9,5 @@ pub mod Spaces
 pub mod Bounds
 pub mod Laying
 pub mod Flats
+pub mod Breaks
 pub mod Pages

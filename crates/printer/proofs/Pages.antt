@@ -13,12 +13,13 @@ use Rattle.refusals.specs.declared.Refusal.{Refusal}
 use Rattle.lists.specs.Over.{over}
 use Rattle.lists.proofs.Writing.{Wrote, wrote-none}
 use Rattle.table.specs.Trees.{Tree, Trees, none, more}
-use Rattle.table.specs.Decoding.{Found, found, refused, andThen, treeAt, treesAt, tableOf, good, bad, judged, verdictOf}
-use Rattle.table.specs.declared.Checked.{Checked}
-use Rattle.table.specs.declared.Checked.the-variants.{Good, Refused as Bad}
+use Rattle.table.specs.Decoding.{Found, found, refused, andThen, treeAt, treesAt, tableOf}
 use Rattle.printer.specs.Layout.{Wrap, bytes, lay, pageFrom, page}
 use Rattle.printer.specs.Printing.{text, no, printing, printedInto, printOf}
 use Rattle.printer.specs.Code.{Right, treeOf, treesOf, nextOf, Filled, between, framed}
+use Rattle.printer.specs.Measuring.{Summed}
+use Rattle.printer.specs.declared.measure.Measured.{Measured}
+use Rattle.printer.specs.declared.measure.Measured.the-variants.{Bytes, Refused as No}
 use Rattle.printer.specs.declared.Printed.{Printed}
 use Rattle.printer.specs.declared.Printed.the-variants.{Text, Refused}
 use Rattle.printer.proofs.Founds.{first-rest, found-end}
@@ -180,28 +181,20 @@ module _ {t : List ℕ} {w : ℕ} {b₀ b : List ℕ} {n p : ℕ} (h : Pages t w
 
 -- ---- the answer
 
--- a room of no bytes was lent
-pub none-lent : (ys b : List ℕ) → length ys ≡ 0 → ys ++ b ≡ b
-none-lent [] b e = refl
-none-lent (y ∷ ys) b e = absurd (omega arith)
-
 abbrev Answer : List ℕ → ℕ → List ℕ → List ℕ → Printed → Type 0
 Answer t w b b′ r = (printOf r ≡ printing t w (length b)) × (b′ ≡ printedInto t w b)
 
-right-of : (y : Found Trees) → good ≡ judged y → Right y
-right-of (found xs q) e = tt
-right-of (refused n a) e = let z : _≡_ {A = ℕ} 0 1 = cc in absurd (omega arith)
+pub print-right : (y : Found Trees) (w n : ℕ) (x : Measured) → Summed y w x → x ≡ Bytes n → Right y × (n ≡ length (page (treesOf y) w))
+print-right (found xs q) w n x s e = (tt, subst (Summed (found xs q) w) e s)
+print-right (refused m a) w n x s e = absurd (subst (Summed (refused m a) w) e s)
 
-pub print-right : (y : Found Trees) (x : Checked) → verdictOf x ≡ judged y → x ≡ Good → Right y
-print-right y x e e′ = right-of y (sym (ap verdictOf e′) ∙ e)
+refused-of : (y : Found Trees) (w : ℕ) (r : Refusal) → Summed y w (No r) → y ≡ refused (r .number) (r .place)
+refused-of (found xs q) w r s = absurd s
+refused-of (refused n a) w r s = rw (s .0, s .1) refl
 
-refused-of : (y : Found Trees) (n a : ℕ) → bad n a ≡ judged y → y ≡ refused n a
-refused-of (found xs q) n a e = let z : _≡_ {A = ℕ} 0 1 = cc in absurd (omega arith)
-refused-of (refused m c) n a e = cc
-
-pub print-no : (t : List ℕ) (w : ℕ) (b : List ℕ) (x : Checked) (r : Refusal) → verdictOf x ≡ judged (tableOf true t) → x ≡ Bad r → Answer t w b b (Refused r)
+pub print-no : (t : List ℕ) (w : ℕ) (b : List ℕ) (x : Measured) (r : Refusal) → Summed (tableOf true t) w x → x ≡ No r → Answer t w b b (Refused r)
 unfolding printing printedInto
-print-no t w b x r e e′ = rw (refused-of (tableOf true t) (r .number) (r .place) (sym (ap verdictOf e′) ∙ e)) (refl, refl)
+print-no t w b x r s e = rw (refused-of (tableOf true t) w r (subst (Summed (tableOf true t) w) e s)) (refl, refl)
 
 module _ (t : List ℕ) (n w : ℕ) (b : List ℕ) (r : Right (tableOf true t)) (e : n ≡ length (page (treesOf (tableOf true t)) w)) where
   short-of : (y : Found Trees) → Right y → n ≡ length (page (treesOf y) w) → tableOf true t ≡ y → length b < n → Answer t w b b (Refused (record { number = printRoom; place = n }))
@@ -219,6 +212,5 @@ module _ (t : List ℕ) (n w : ℕ) (b : List ℕ) (r : Right (tableOf true t)) 
       let k : length (page xs w) ≤ length b = omega arith in
       rw (ey, le-leb (length (page xs w)) (length b) k) (ap text f, g k)
 
-  -- b₁ is the room after it was measured
-  pub print-text : n ≤ length b → (b₁ b′ : List ℕ) → b₁ ≡ b → Filled (page (treesOf (tableOf true t)) w) b₁ b′ → Answer t w b b′ (Text n)
-  print-text l b₁ b′ eb g = text-of (tableOf true t) r e refl l b′ (subst (λ (v : List ℕ). Filled (page (treesOf (tableOf true t)) w) v b′) eb g)
+  pub print-text : n ≤ length b → (b′ : List ℕ) → Filled (page (treesOf (tableOf true t)) w) b b′ → Answer t w b b′ (Text n)
+  print-text l b′ g = text-of (tableOf true t) r e refl l b′ g

@@ -12,7 +12,7 @@ use Rattle.table.specs.Trees.{Tree, Trees, symbol, list, none}
 use Rattle.table.specs.declared.Record.{Record}
 use Rattle.table.specs.declared.Record.the-variants.{Symbol, Integer, Binding, List as ListOf, Bad}
 use Rattle.table.specs.Decoding.{Found, found, refused, treeAt}
-use Rattle.printer.specs.Layout.{Put, Wrapping, Wrap, SingleLine, bytes, column, next, back, put, lay, fits, wrapped}
+use Rattle.printer.specs.Layout.{Put, Wrapping, Wrap, SingleLine, bytes, next, back, put, lay}
 use Rattle.printer.specs.declared.cost.Entry.{Entry}
 use Rattle.printer.specs.declared.cost.Entry.the-variants.{Is, Bad as NoEntry}
 
@@ -66,9 +66,9 @@ named-len Bad = 0
 abbrev pub Filled : List ℕ → List ℕ → List ℕ → Type 0
 Filled o b b′ = length o ≤ length b → b′ ≡ over o b
 
--- the tree at a place, laid: the place past it, the bytes that it takes, and the column after them
-abbrev pub Laid : Found Tree → Wrapping → ℕ → ℕ → ℕ → ℕ → ℕ → ℕ → Type 0
-Laid y m w i c q len col = (q ≡ nextOf y) × (len ≡ length (bytes (lay (treeOf y) m w i c))) × (col ≡ column (lay (treeOf y) m w i c))
+-- the tree at a place, wrapped: the place past it, and the bytes that it takes, at the front of a room
+abbrev pub Laid : Found Tree → ℕ → ℕ → ℕ → ℕ → ℕ → List ℕ → List ℕ → Type 0
+Laid y w i c q len b b′ = (q ≡ nextOf y) × (len ≡ length (bytes (lay (treeOf y) Wrap w i c))) × Filled (bytes (lay (treeOf y) Wrap w i c)) b b′
 
 -- a tree on a single line: the bytes that it takes, at the front of a room
 abbrev pub Lined : Tree → ℕ → ℕ → ℕ → ℕ → List ℕ → List ℕ → Type 0

@@ -1,13 +1,11 @@
 -- The layout of trees at a width (document 01, 'How a table is laid out'): the bytes, and the column after them.
-use Prim.Native.Nat.{ℕ, zero, suc, _+_, _*_}
+use Prim.Native.Nat.{ℕ, _+_, _*_}
 use mathlib.Core.Bool.{Bool, true, false, cond}
 use mathlib.Core.List.{List, [], _∷_, _++_}
 use lib.ListN.{length, replicate}
 use lib.Dec.{leb}
 use Rattle.wide.specs.Decimal.{decimalOf}
 use Rattle.table.specs.Trees.{Tree, Trees, symbol, integer, binding, list, none, more, count}
-pub use Rattle.printer.specs.declared.Wrapping.{Wrapping}
-pub use Rattle.printer.specs.declared.Wrapping.the-variants.{Wrap, SingleLine}
 
 -- costs add over the subtree: atom its length; binding name plus 3; list items plus 1
 unfoldable mutual
@@ -42,6 +40,10 @@ nl i = written (10 ∷ replicate (4 * i) 32) 0
 -- one thing after the other
 abbrev pub next : Put → (ℕ → Put) → Put
 next x k = written (bytes x ++ bytes (k (column x))) (column (k (column x)))
+
+-- a list is tested, or laid on a single line
+pub data Wrapping : Type 0 where
+  Wrap SingleLine : Wrapping
 
 -- a list fits if its cost is at most width minus column, and never if the column is past the width
 abbrev pub fits : ℕ → ℕ → Tree → Bool

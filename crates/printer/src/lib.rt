@@ -5,26 +5,21 @@ mod gaps;
 mod measure;
 mod room;
 
+use flat::Run;
 use measure::Measured;
 use refusals::Refusal;
 use table::Record;
 ghost use mathlib.Core.Path.{_≡_};
 ghost use mathlib.Core.Bool.{true};
-ghost use Prim.Native.Nat.{ℕ, _+_, _≤_};
+ghost use Prim.Native.Nat.{_+_, _≤_};
 ghost use lib.Dec.{ltb};
 ghost use lib.ListN.{length};
 ghost use Rattle.refusals.specs.Numbers.{depthLimit};
 ghost use Rattle.table.specs.Records.{payload};
 ghost use Rattle.table.specs.Decoding.{treeAt, tableOf};
-ghost use Rattle.printer.specs.Layout.{Wrap, bytes, named, lay, page};
+ghost use Rattle.printer.specs.Layout.{named, page};
 ghost use Rattle.printer.specs.Printing.{printing, printedInto, printOf};
 ghost use Rattle.printer.specs.Code.{Right, treeOf, treesOf, nextOf, Filled, Laid, Ready, between, framed};
-
-// A list is laid on a single line, or tested.
-pub enum Wrapping {
-    Wrap,
-    SingleLine,
-}
 
 pub enum Printed {
     // The bytes written.
@@ -51,15 +46,6 @@ fn put_name(t: &[u8], at: usize, len: usize, out: &mut [u8]) -> usize
     n + 3
 }
 
-struct Done {
-    // The place past the tree.
-    next: usize,
-    // The bytes that it takes.
-    len: usize,
-    // The column after it.
-    column: usize,
-}
-
 // The tree at `at` of a checked table. A list that fits is on a single line, with all inside it; any other has its items tested in turn.
 fn print_wrapped(
     t: &[u8],
@@ -69,34 +55,24 @@ fn print_wrapped(
     indent: usize,
     column: usize,
     out: &mut [u8],
-) -> Done
+) -> Run
     requires { ⌜ Ready (now t) depth at width indent column ⌝ }
-    ensures { λ r. ⌜ Laid (treeAt (now (t .entry)) true depth at) Wrap width indent column (r .next) (r .len) (r .column)
-        × Filled (bytes (lay (treeOf (treeAt (now (t .entry)) true depth at)) Wrap width indent column)) (now (out .entry)) (now (out .exit)) ⌝ }
+    ensures { λ r. ⌜ Laid (treeAt (now (t .entry)) true depth at) width indent column (r .next) (r .len) (now (out .entry)) (now (out .exit)) ⌝ }
 {
     let node = table::record_at(t, at);
     match node {
-        Record::Bad => Done {
-            next: at,
-            len: 0,
-            column,
-        },
+        Record::Bad => Run { next: at, len: 0 },
         Record::Symbol(len) => {
             let start = at + 6;
             let end = at + len;
             let n = room::put(&t[start..end], out);
-            Done {
-                next: end,
-                len: n,
-                column: column + n,
-            }
+            Run { next: end, len: n }
         }
         Record::Integer => {
             let n = wide::put_decimal(wide::wide_at(t, at + 6), out);
-            Done {
+            Run {
                 next: at + 22,
                 len: n,
-                column: column + n,
             }
         }
         Record::Binding(len) => {
@@ -111,28 +87,21 @@ fn print_wrapped(
                 column + k,
                 &mut out[rest..],
             );
-            Done {
+            Run {
                 next: tree.next,
                 len: k + tree.len,
-                column: tree.column,
             }
         }
         Record::List(n) => {
             if cost::fits(t, at, width, column) {
-                let whole = flat::print_flat(t, at, depth, out);
-                return Done {
-                    next: whole.next,
-                    len: whole.len,
-                    column: column + whole.len,
-                };
+                return flat::print_flat(t, at, depth, out);
             }
             let mut w = room::put_byte(b'(', out);
             let mut p = at + 10;
-            let mut c = column + 1;
             let mut i = 0;
             while i < n {
                 let from = room::least(w, out.len());
-                let g = gaps::put_gap(i == 0, Wrapping::Wrap, indent, c, &mut out[from..]);
+                let g = gaps::put_gap(i == 0, indent, column + 1, &mut out[from..]);
                 let k = w + g.len;
                 let rest = room::least(k, out.len());
                 let item = print_wrapped(
@@ -146,15 +115,13 @@ fn print_wrapped(
                 );
                 w = k + item.len;
                 p = item.next;
-                c = item.column;
                 i += 1;
             }
             let rest = room::least(w, out.len());
-            let end = gaps::put_close(n == 0, Wrapping::Wrap, indent, c, &mut out[rest..]);
-            Done {
+            let end = gaps::put_close(n == 0, indent, &mut out[rest..]);
+            Run {
                 next: p,
-                len: w + end.len,
-                column: end.column,
+                len: w + end,
             }
         }
     }
@@ -170,13 +137,8 @@ fn put_between(later: bool, out: &mut [u8]) -> usize
     0
 }
 
-struct Line {
-    next: usize,
-    len: usize,
-}
-
 // A tree and its LF, and the LF between it and one before it.
-fn print_node(t: &[u8], at: usize, width: usize, out: &mut [u8]) -> Line
+fn print_node(t: &[u8], at: usize, width: usize, out: &mut [u8]) -> Run
     requires { ⌜ (at ≤ length (now t)) × (length (now t) ≤ 16777216) × Right (treeAt (now t) true depthLimit at) ⌝ }
     ensures { λ r. ⌜ (r .next ≡ nextOf (treeAt (now (t .entry)) true depthLimit at))
         × (r .len ≡ length (framed (ltb 0 at) (treeOf (treeAt (now (t .entry)) true depthLimit at)) width))
@@ -188,7 +150,7 @@ fn print_node(t: &[u8], at: usize, width: usize, out: &mut [u8]) -> Line
     let end = w + tree.len;
     let last = room::least(end, out.len());
     let k = room::put_byte(b'\n', &mut out[last..]);
-    Line {
+    Run {
         next: tree.next,
         len: end + k,
     }

@@ -1,6 +1,5 @@
 -- Bytes of a number put at the front of a buffer, and the texts that fit it: the laws of the loops and of the returns. Assumes nothing.
 use mathlib.Core.Path.{_≡_, refl, sym, ap, subst, _∙_}
-use mathlib.Core.Bool.{Bool, cond}
 use mathlib.Core.List.{List, [], _∷_, _++_}
 use Prim.Native.Nat.{ℕ, _+_, _*_, _-_, _/_, _%_, _^_, _≤_, _<_}
 use native.Mathlib.Nat.{pow-zero, div-one}
@@ -10,8 +9,8 @@ use lib.ListN.{length, take, drop, set, length-set}
 use borrow.Rule.Slice.PartMut.{putMid}
 use mir.Syntax.{w64, w128}
 use mir.Val.{SFits, ofZ}
-use borrow.Author.Tests.{le-leb, lt-leb}
 use Rattle.lists.specs.Over.{over, fitted}
+use Rattle.lists.proofs.Blocks.{fits-in}
 use Rattle.lists.proofs.Writing.{Wrote, wrote-none, wrote-set, wrote-lent, part-length}
 use Rattle.wide.specs.Bytes.{le, wideBytes}
 use Rattle.wide.specs.Value.{valueOf}

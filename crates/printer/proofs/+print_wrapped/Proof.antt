@@ -1,22 +1,21 @@
 -- `printer::print_wrapped`: the depth falls at each call; the laws of each record and of each item are cited.
-use mathlib.Core.Path.{refl, ap}
 use native.Mathlib.Omega.{arith}
+use mathlib.Core.Path.{refl, sym, _∙_}
 use borrow.Author.Needs.{needs}
-use Rattle.wide.specs.Value.{value}
-use Rattle.wide.proofs.Decimals.{decimal-top}
-use Rattle.table.proofs.Stands.{part-size}
 use Rattle.table.proofs.Reading.{symbol-in, integer-in, binding-in, list-in}
-use Rattle.printer.specs.Code.{treeOf}
 use Rattle.printer.proofs.Founds.{bad-found, symbol-found, integer-found, binding-found, list-found}
 use Rattle.printer.proofs.Entries.{integer-value, list-small}
-use Rattle.printer.proofs.Laying.{Laying, symbol-out, integer-out, bind-is, bound, laying-begin, laying-step, laying-end, turn, so-far, ended}
+use Rattle.printer.specs.Layout.{Wrap}
+use Rattle.printer.proofs.Laying.{symbol-out, integer-out, bind-is, bound}
+use Rattle.printer.proofs.Breaks.{line-out, Breaking, breaking-begin, breaking-turn, breaking-step, breaking-whole, breaking-end}
 use Prim.Native.Nat.{ℕ, _+_, _-_, _<_}
 use borrow.Fn.Kinds.{In}
 use borrow.Fn.PlainCycle.{Measures, is, falls, and}
 use Rattle.printer.proofs.print_wrapped.Reads as print-wrapped
 use Rattle.printer.proofs.print_wrapped.Kinds as print-wrapped-kinds
 use Rattle.printer.proofs.+print_wrapped.Lts-print_wrapped as print-wrapped-lts
-use Rattle.printer.proofs.choose.Reads as choose-reads
+use Rattle.printer.proofs.cost.fits.Reads as fits-reads
+use Rattle.printer.proofs.flat.print_flat.Reads as print-flat-reads
 use Rattle.printer.proofs.room.least.Reads as least-reads
 use Rattle.printer.proofs.room.put.Reads as put-reads
 use Rattle.printer.proofs.room.put_byte.Reads as put-byte-reads
@@ -42,13 +41,13 @@ print-wrapped-below t =
 
 -- the contracts of the functions that it calls
 abbrev calls : ℕ → print-wrapped-lts.Claims
-calls t = (record-at-reads.Asked, record-at-reads.Learnt, put-reads.Asked, put-reads.Learnt, wide-at-reads.Asked, wide-at-reads.Learnt, put-decimal-reads.Asked, put-decimal-reads.Learnt, put-name-reads.Asked, put-name-reads.Learnt, least-reads.Asked, least-reads.Learnt, print-wrapped-below t, print-wrapped.Post, choose-reads.Asked, choose-reads.Learnt, put-byte-reads.Asked, put-byte-reads.Learnt, put-gap-reads.Asked, put-gap-reads.Learnt, put-close-reads.Asked, put-close-reads.Learnt)
+calls t = (record-at-reads.Asked, record-at-reads.Learnt, put-reads.Asked, put-reads.Learnt, wide-at-reads.Asked, wide-at-reads.Learnt, put-decimal-reads.Asked, put-decimal-reads.Learnt, put-name-reads.Asked, put-name-reads.Learnt, least-reads.Asked, least-reads.Learnt, print-wrapped-below t, print-wrapped.Post, fits-reads.Asked, fits-reads.Learnt, print-flat-reads.Asked, print-flat-reads.Learnt, put-byte-reads.Asked, put-byte-reads.Learnt, put-gap-reads.Asked, put-gap-reads.Learnt, put-close-reads.Asked, put-close-reads.Learnt)
 
 abbrev Inv-loop : print-wrapped-lts.InvT-loop
-Inv-loop t at depth width indent column out₀ n inside w₀ p₀ c₀ i₀ out w p c i = Laying t at depth width indent column n inside out₀ out w p c i
+Inv-loop t at depth width indent column out₀ n w₀ p₀ i₀ out w p i = Breaking t at depth width indent column n out₀ out w p i
 
 abbrev μ-loop : print-wrapped-lts.MeasureT-loop
-μ-loop t at depth width indent column out₀ n inside w₀ p₀ c₀ i₀ out w p c i = n - i
+μ-loop t at depth width indent column out₀ n w₀ p₀ i₀ out w p i = n - i
 
 record-at-requires : (t : ℕ) → print-wrapped-lts.Need-record-at-requires (calls t) (print-wrapped-at t) print-wrapped.Post Inv-loop μ-loop
 record-at-requires t c κs = search needs
@@ -77,15 +76,6 @@ part-put-end t c = omega (arith, symbol-in _ _ _ _ (c .before .before .before .r
 put-requires : (t : ℕ) → print-wrapped-lts.Need-put-requires (calls t) (print-wrapped-at t) print-wrapped.Post Inv-loop μ-loop
 put-requires t c κs = search needs
 
-add-t35 : (t : ℕ) → print-wrapped-lts.Need-add-t35 (calls t) (print-wrapped-at t) print-wrapped.Post Inv-loop μ-loop
-add-t35 t c =
-    let a = c .before .before .before .before .before .before .before .before in
-    let s = a .before .before .before in
-    let len = c .before .before .before .before .before .before .node .given .0 .0 in
-    let h = symbol-in _ _ _ _ (a .record-at .ensures) (c .before .before .before .before .before .before .node .given .1) in
-    let k = part-size (s .args .t .now) (s .args .at + 6) (s .args .at + len - (s .args .at + 6)) (omega (arith, s .pre .1)) in
-    omega (arith, c .before .before .put .ensures .0, s .pre .1)
-
 enum-told-2 : (t : ℕ) → print-wrapped-lts.Need-enum-told-2 (calls t) (print-wrapped-at t) print-wrapped.Post Inv-loop μ-loop
 enum-told-2 t c = search needs
 
@@ -98,11 +88,8 @@ wide-at-requires t c κs = search needs
 put-decimal-requires : (t : ℕ) → print-wrapped-lts.Need-put-decimal-requires (calls t) (print-wrapped-at t) print-wrapped.Post Inv-loop μ-loop
 put-decimal-requires t c κs = search needs
 
-add-t41 : (t : ℕ) → print-wrapped-lts.Need-add-t41 (calls t) (print-wrapped-at t) print-wrapped.Post Inv-loop μ-loop
-add-t41 t c = omega (arith, integer-in _ _ _ (c .before .before .before .before .before .before .before .record-at .ensures) (c .before .before .before .before .before .enum-told2 .given .1), c .before .before .before .before .before .before .before .before .before .before .pre .1)
-
-add-t44 : (t : ℕ) → print-wrapped-lts.Need-add-t44 (calls t) (print-wrapped-at t) print-wrapped.Post Inv-loop μ-loop
-add-t44 t c = omega (arith, decimal-top (value (c .before .before .before .before .wide-at .result)), c .before .before .put-decimal .ensures .0, c .before .before .before .before .before .before .before .before .before .before .pre .1)
+add-t37 : (t : ℕ) → print-wrapped-lts.Need-add-t37 (calls t) (print-wrapped-at t) print-wrapped.Post Inv-loop μ-loop
+add-t37 t c = omega (arith, integer-in _ _ _ (c .before .before .before .before .before .before .before .record-at .ensures) (c .before .before .before .before .before .enum-told2 .given .1), c .before .before .before .before .before .before .before .before .before .before .pre .1)
 
 enum-known-node-2 : (t : ℕ) → print-wrapped-lts.Need-enum-known-node-2 (calls t) (print-wrapped-at t) print-wrapped.Post Inv-loop μ-loop
 enum-known-node-2 t c = search needs
@@ -129,7 +116,7 @@ add-print-wrapped-2 t c =
     let r = s .pre .1 in
     let k = c .before .before .before .put-name .ensures in
     let h = binding-found _ _ _ _ (r .3) (a .record-at .ensures) _ (c .before .before .before .before .before .before .node2 .given .1) in
-    let e = bind-is _ _ (s .args .mode) (s .args .width) (s .args .indent) (s .args .column) _ _ _ (k .0) h in
+    let e = bind-is _ _ Wrap (s .args .width) (s .args .indent) (s .args .column) _ _ _ (k .0) h in
     omega (arith, e .3, r .4)
 
 sub-print-wrapped-2 : (t : ℕ) → print-wrapped-lts.Need-sub-print-wrapped-2 (calls t) (print-wrapped-at t) print-wrapped.Post Inv-loop μ-loop
@@ -148,44 +135,42 @@ print-wrapped-requires t c κs =
     let r = s .pre .1 in
     let k = c .before .before .before .before .put-name .ensures in
     let h = binding-found _ _ _ _ (r .3) (a .record-at .ensures) _ (c .before .before .before .before .before .before .before .node2 .given .1) in
-    let e = bind-is _ _ (s .args .mode) (s .args .width) (s .args .indent) (s .args .column) _ _ _ (k .0) h in
+    let e = bind-is _ _ Wrap (s .args .width) (s .args .indent) (s .args .column) _ _ _ (k .0) h in
     let b = binding-in _ _ _ _ (a .record-at .ensures) (c .before .before .before .before .before .before .before .node2 .given .1) in
     let d = h .deeper in
     (omega arith, (omega arith, r .1, omega arith, h .right, omega (arith, e .3, r .4)))
 
-add-t47 : (t : ℕ) → print-wrapped-lts.Need-add-t47 (calls t) (print-wrapped-at t) print-wrapped.Post Inv-loop μ-loop
-add-t47 t c =
+add-t42 : (t : ℕ) → print-wrapped-lts.Need-add-t42 (calls t) (print-wrapped-at t) print-wrapped.Post Inv-loop μ-loop
+add-t42 t c =
     let a = c .before .before .before .before .before .before .before .before .before .before .before .before .before in
     let s = a .before .before .before in
     let r = s .pre .1 in
     let k = c .before .before .before .before .before .before .before .before .put-name .ensures in
     let h = binding-found _ _ _ _ (r .3) (a .record-at .ensures) _ (c .before .before .before .before .before .before .before .before .before .before .before .node2 .given .1) in
-    let e = bind-is _ _ (s .args .mode) (s .args .width) (s .args .indent) (s .args .column) _ _ _ (k .0) h in
-    omega (arith, e .3, r .4, c .before .before .before .print-wrapped .ensures .0 .1)
+    let e = bind-is _ _ Wrap (s .args .width) (s .args .indent) (s .args .column) _ _ _ (k .0) h in
+    omega (arith, e .3, r .4, c .before .before .before .print-wrapped .ensures .1)
 
 enum-known-node-3 : (t : ℕ) → print-wrapped-lts.Need-enum-known-node-3 (calls t) (print-wrapped-at t) print-wrapped.Post Inv-loop μ-loop
 enum-known-node-3 t c = search needs
 
-choose-requires : (t : ℕ) → print-wrapped-lts.Need-choose-requires (calls t) (print-wrapped-at t) print-wrapped.Post Inv-loop μ-loop
-choose-requires t c κs = (c .before .before .before .before .before .before .pre .1 .0, c .before .before .before .before .before .before .pre .1 .1)
+fits-requires : (t : ℕ) → print-wrapped-lts.Need-fits-requires (calls t) (print-wrapped-at t) print-wrapped.Post Inv-loop μ-loop
+fits-requires t c κs = (c .before .before .before .before .before .before .pre .1 .0, c .before .before .before .before .before .before .pre .1 .1)
 
-add-t56 : (t : ℕ) → print-wrapped-lts.Need-add-t56 (calls t) (print-wrapped-at t) print-wrapped.Post Inv-loop μ-loop
-add-t56 t c =
-    let a = c .before .before .before .before .before .before in
-    let s = a .before .before .before in
-    let h = list-found _ _ _ _ (s .pre .1 .3) (a .record-at .ensures) _ (c .before .before .before .before .node3 .given .1) in
-    let k = c .before .before .choose .ensures (s .args .depth) (s .pre .1 .3) .0 (c .before .if1 .taken) in
-    let l = k .1 (s .args .indent) _ (ap treeOf (h .is)) in
-    omega (arith, l .1, s .pre .1 .4)
+print-flat-requires : (t : ℕ) → print-wrapped-lts.Need-print-flat-requires (calls t) (print-wrapped-at t) print-wrapped.Post Inv-loop μ-loop
+print-flat-requires t c κs = let r = c .before .before .before .before .before .before .before .before .before .pre .1 in (r .0, r .1, omega arith, r .3)
+
+same-length : (t : ℕ) → print-wrapped-lts.Need-same-length (calls t) (print-wrapped-at t) print-wrapped.Post Inv-loop μ-loop
+same-length t c = search needs
 
 returns : (t : ℕ) → print-wrapped-lts.Need-returns (calls t) (print-wrapped-at t) print-wrapped.Post Inv-loop μ-loop
 returns t c =
-    let a = c .before .before .before .before .before .before in
+    let a = c .before .before .before .before .before .before .before .before .before in
     let s = a .before .before .before in
-    let h = list-found _ _ _ _ (s .pre .1 .3) (a .record-at .ensures) _ (c .before .before .before .before .node3 .given .1) in
-    let k = c .before .before .choose .ensures (s .args .depth) (s .pre .1 .3) .0 (c .before .if1 .taken) in
-    let l = k .1 (s .args .indent) _ (ap treeOf (h .is)) in
-    (l, λ v. absurd (omega (arith, l .1, k .0)))
+    let r = s .pre .1 in
+    let h = list-found _ _ _ _ (r .3) (a .record-at .ensures) _ (c .before .before .before .before .before .before .before .node3 .given .1) in
+    let f = c .before .before .before .before .before .fits2 .ensures (s .args .depth) (r .3) in
+    let e = c .before .before .print-flat .ensures in
+    line-out _ _ _ _ _ _ _ _ (s .args .out .now) _ h (sym f ∙ c .before .before .before .before .if1 .taken) (e .0) (e .1 (s .args .width) (s .args .indent) (s .args .column))
 
 put-byte-requires : (t : ℕ) → print-wrapped-lts.Need-put-byte-requires (calls t) (print-wrapped-at t) print-wrapped.Post Inv-loop μ-loop
 put-byte-requires t c κs = search needs
@@ -193,20 +178,21 @@ put-byte-requires t c κs = search needs
 add-p : (t : ℕ) → print-wrapped-lts.Need-add-p (calls t) (print-wrapped-at t) print-wrapped.Post Inv-loop μ-loop
 add-p t c = omega (arith, list-in _ _ _ _ (c .before .before .before .before .before .before .before .before .before .record-at .ensures) (c .before .before .before .before .before .before .before .node3 .given .1), c .before .before .before .before .before .before .before .before .before .before .before .before .pre .1)
 
-add-c : (t : ℕ) → print-wrapped-lts.Need-add-c (calls t) (print-wrapped-at t) print-wrapped.Post Inv-loop μ-loop
-add-c t c = omega (arith, c .before .before .before .before .before .before .before .before .before .before .before .before .pre .1)
-
 loop-holds : (t : ℕ) → print-wrapped-lts.Need-loop-holds (calls t) (print-wrapped-at t) print-wrapped.Post Inv-loop μ-loop
 loop-holds t c =
     let a = c .before .before .before .before .before .before .before .before .before in
     let s = a .before .before .before in
     let r = s .pre .1 in
-    let b = list-in _ _ _ _ (a .record-at .ensures) (c .before .before .before .before .before .before .before .node3 .given .1) in
     let h = list-found _ _ _ _ (r .3) (a .record-at .ensures) _ (c .before .before .before .before .before .before .before .node3 .given .1) in
-    laying-begin _ _ _ _ (s .args .mode) _ _ _ _ _ _ h (c .before .before .before .before .before .choose .ensures (s .args .depth) (r .3) .1 (c .before .before .before .before .if1 .left)) (r .4) (omega arith) (c .before .before .put-byte .ensures .0)
+    let f = c .before .before .before .before .before .fits2 .ensures (s .args .depth) (r .3) in
+    let b = list-in _ _ _ _ (a .record-at .ensures) (c .before .before .before .before .before .before .before .node3 .given .1) in
+    breaking-begin _ _ _ _ _ _ _ _ _ h (sym f ∙ c .before .before .before .before .if1 .left) (r .4) (omega arith) (c .before .before .put-byte .ensures .0)
 
 least-requires-2 : (t : ℕ) → print-wrapped-lts.Need-least-requires-2 (calls t) (print-wrapped-at t) print-wrapped.Post Inv-loop μ-loop
 least-requires-2 t c κs = search needs
+
+add-put-gap : (t : ℕ) → print-wrapped-lts.Need-add-put-gap (calls t) (print-wrapped-at t) print-wrapped.Post Inv-loop μ-loop
+add-put-gap t c = omega (arith, c .before .before .before .before .before .before .before .before .before .before .before .before .before .before .before .pre .1)
 
 sub-put-gap : (t : ℕ) → print-wrapped-lts.Need-sub-put-gap (calls t) (print-wrapped-at t) print-wrapped.Post Inv-loop μ-loop
 sub-put-gap t c = c .least2 .ensures .0
@@ -218,52 +204,25 @@ part-put-gap-end : (t : ℕ) → print-wrapped-lts.Need-part-put-gap-end (calls 
 part-put-gap-end t c = search needs
 
 put-gap-requires : (t : ℕ) → print-wrapped-lts.Need-put-gap-requires (calls t) (print-wrapped-at t) print-wrapped.Post Inv-loop μ-loop
-put-gap-requires t c κs =
-    let v = c .before .before .before .loop .inv in
-    let r = c .before .before .before .before .before .before .before .before .before .before .before .before .before .before .before .before .pre .1 in
-    (omega (arith, v .deeper), omega (arith, v .col, v .small, so-far v))
+put-gap-requires t c κs = let r = c .before .before .before .before .before .before .before .before .before .before .before .before .before .before .before .before .pre .1 in omega (arith, c .before .before .before .loop .inv .laying .deeper)
 
 add-k : (t : ℕ) → print-wrapped-lts.Need-add-k (calls t) (print-wrapped-at t) print-wrapped.Post Inv-loop μ-loop
 add-k t c =
     let v = c .before .before .before .before .before .before .before .loop .inv in
     let g = c .before .before .before .put-gap .ensures in
-    let u = turn v (c .before .before .before .before .before .before .loop-test .taken) _ _ _ (g .0) (g .1) (g .2) in
-    omega (arith, u .room, v .small)
+    let u = breaking-turn v (c .before .before .before .before .before .before .loop-test .taken) _ _ _ (g .0) (g .1) (g .2) in
+    omega (arith, u .room, v .laying .small)
 
 least-requires-3 : (t : ℕ) → print-wrapped-lts.Need-least-requires-3 (calls t) (print-wrapped-at t) print-wrapped.Post Inv-loop μ-loop
 least-requires-3 t c κs = search needs
 
 sub-print-wrapped-3 : (t : ℕ) → print-wrapped-lts.Need-sub-print-wrapped-3 (calls t) (print-wrapped-at t) print-wrapped.Post Inv-loop μ-loop
-sub-print-wrapped-3 t c = c .before .before .before .before .before .before .before .before .loop .inv .deeper
+sub-print-wrapped-3 t c = c .before .before .before .before .before .before .before .before .loop .inv .laying .deeper
 
 sub-print-wrapped-4 : (t : ℕ) → print-wrapped-lts.Need-sub-print-wrapped-4 (calls t) (print-wrapped-at t) print-wrapped.Post Inv-loop μ-loop
 sub-print-wrapped-4 t c = c .least3 .ensures .0
 
-part-print-wrapped-start-2 :
-    (t : ℕ) → print-wrapped-lts.Need-part-print-wrapped-start-2 (
-      record-at-reads.Asked,
-      record-at-reads.Learnt,
-      put-reads.Asked,
-      put-reads.Learnt,
-      wide-at-reads.Asked,
-      wide-at-reads.Learnt,
-      put-decimal-reads.Asked,
-      put-decimal-reads.Learnt,
-      put-name-reads.Asked,
-      put-name-reads.Learnt,
-      least-reads.Asked,
-      least-reads.Learnt,
-      print-wrapped-below t,
-      print-wrapped.Post,
-      choose-reads.Asked,
-      choose-reads.Learnt,
-      put-byte-reads.Asked,
-      put-byte-reads.Learnt,
-      put-gap-reads.Asked,
-      put-gap-reads.Learnt,
-      put-close-reads.Asked,
-      put-close-reads.Learnt,
-    ) (print-wrapped-at t) print-wrapped.Post Inv-loop μ-loop
+part-print-wrapped-start-2 : (t : ℕ) → print-wrapped-lts.Need-part-print-wrapped-start-2 (calls t) (print-wrapped-at t) print-wrapped.Post Inv-loop μ-loop
 part-print-wrapped-start-2 t c = c .least3 .ensures .0
 
 part-print-wrapped-end-2 : (t : ℕ) → print-wrapped-lts.Need-part-print-wrapped-end-2 (calls t) (print-wrapped-at t) print-wrapped.Post Inv-loop μ-loop
@@ -273,29 +232,30 @@ print-wrapped-requires-2 : (t : ℕ) → print-wrapped-lts.Need-print-wrapped-re
 print-wrapped-requires-2 t c κs =
     let v = c .before .before .before .before .before .before .before .before .before .loop .inv in
     let g = c .before .before .before .before .before .put-gap .ensures in
-    let u = turn v (c .before .before .before .before .before .before .before .before .loop-test .taken) _ _ _ (g .0) (g .1) (g .2) in
-    let r = c .before .before .before .before .before .before .before .before .before .before .before .before .before .before .before .before .before .before .before .before .before .before .pre .1 in
-    let d = v .deeper in
-    (omega (arith, c .before .before .before .before .before .before .before .before .before .before .before .before .before .before .before .before .before .before .before .before .before .before .pre .0), (v .within, r .1, omega (arith, u .step), u .right, omega (arith, u .room, u .start, v .small)))
+    let u = breaking-turn v (c .before .before .before .before .before .before .before .before .loop-test .taken) _ _ _ (g .0) (g .1) (g .2) in
+    let s = c .before .before .before .before .before .before .before .before .before .before .before .before .before .before .before .before .before .before .before .before .before .before in
+    let r = s .pre .1 in
+    let d = v .laying .deeper in
+    (omega (arith, s .pre .0), (v .laying .within, r .1, omega (arith, u .step), u .right, omega (arith, u .room, u .start, v .laying .small)))
 
 add-w : (t : ℕ) → print-wrapped-lts.Need-add-w (calls t) (print-wrapped-at t) print-wrapped.Post Inv-loop μ-loop
 add-w t c =
     let v = c .before .before .before .before .before .before .before .before .before .before .before .before .before .loop .inv in
     let g = c .before .before .before .before .before .before .before .before .before .put-gap .ensures in
-    let u = turn v (c .before .before .before .before .before .before .before .before .before .before .before .before .loop-test .taken) _ _ _ (g .0) (g .1) (g .2) in
-    omega (arith, u .room, v .small, c .before .before .before .print-wrapped2 .ensures .0 .1)
+    let u = breaking-turn v (c .before .before .before .before .before .before .before .before .before .before .before .before .loop-test .taken) _ _ _ (g .0) (g .1) (g .2) in
+    omega (arith, u .room, v .laying .small, c .before .before .before .print-wrapped2 .ensures .1)
 
 add-i : (t : ℕ) → print-wrapped-lts.Need-add-i (calls t) (print-wrapped-at t) print-wrapped.Post Inv-loop μ-loop
-add-i t c = omega (arith, c .before .before .before .before .before .before .before .before .before .before .before .before .loop-test .taken, list-small _ _ _ _ (λ i. (c .before .before .before .before .before .before .before .before .before .before .before .before .before .before .before .before .before .before .before .before .before .before .before .before .before .shared-slice-known .given i) .fits) (c .before .before .before .before .before .before .before .before .before .before .before .before .before .before .before .before .before .before .before .before .before .before .before .record-at .ensures) (c .before .before .before .before .before .before .before .before .before .before .before .before .before .before .before .before .before .before .before .before .before .node3 .given .1))
+add-i t c =
+    omega (arith, c .before .before .before .before .before .before .before .before .before .before .before .before .loop-test .taken, list-small _ _ _ _ (λ i. (c .before .before .before .before .before .before .before .before .before .before .before .before .before .before .before .before .before .before .before .before .before .before .before .before .before .shared-slice-known .given i) .fits) (c .before .before .before .before .before .before .before .before .before .before .before .before .before .before .before .before .before .before .before .before .before .before .before .record-at .ensures) (c .before .before .before .before .before .before .before .before .before .before .before .before .before .before .before .before .before .before .before .before .before .node3 .given .1))
 
 loop-less : (t : ℕ) → print-wrapped-lts.Need-loop-less (calls t) (print-wrapped-at t) print-wrapped.Post Inv-loop μ-loop
 loop-less t c = omega (arith, c .before .before .before .before .before .before .before .before .before .before .before .before .loop-test .taken)
 
 loop-again : (t : ℕ) → print-wrapped-lts.Need-loop-again (calls t) (print-wrapped-at t) print-wrapped.Post Inv-loop μ-loop
 loop-again t c =
-    let v = c .before .before .before .before .before .before .before .before .before .before .before .before .before .loop .inv in
     let g = c .before .before .before .before .before .before .before .before .before .put-gap .ensures in
-    laying-step v (c .before .before .before .before .before .before .before .before .before .before .before .before .loop-test .taken) _ _ _ _ _ _ _ _ _ _ (g .0) (g .1) (g .2) (c .before .before .before .before .before .before .before .before .before .before .before .least2 .ensures .1) (g .3) _ refl (c .before .before .before .before .before .before .before .before .out6 .given .1) (c .before .before .before .before .before .least3 .ensures .1) (c .before .before .before .print-wrapped2 .ensures) (c .before .before .out7 .given .1)
+    breaking-step (c .before .before .before .before .before .before .before .before .before .before .before .before .before .loop .inv) (c .before .before .before .before .before .before .before .before .before .before .before .before .loop-test .taken) _ _ _ _ _ _ _ _ _ (g .0) (g .1) (g .2) (c .before .before .before .before .before .before .before .before .before .before .before .least2 .ensures .1) (g .3) _ refl (c .before .before .before .before .before .before .before .before .out7 .given .1) (c .before .before .before .before .before .least3 .ensures .1) (c .before .before .before .print-wrapped2 .ensures) (c .before .before .out8 .given .1)
 
 least-requires-4 : (t : ℕ) → print-wrapped-lts.Need-least-requires-4 (calls t) (print-wrapped-at t) print-wrapped.Post Inv-loop μ-loop
 least-requires-4 t c κs = search needs
@@ -310,32 +270,31 @@ part-put-close-end : (t : ℕ) → print-wrapped-lts.Need-part-put-close-end (ca
 part-put-close-end t c = search needs
 
 put-close-requires : (t : ℕ) → print-wrapped-lts.Need-put-close-requires (calls t) (print-wrapped-at t) print-wrapped.Post Inv-loop μ-loop
-put-close-requires t c κs =
-    let v = c .before .before .before .loop .inv in
-    let r = c .before .before .before .before .before .before .before .before .before .before .before .before .before .before .before .before .pre .1 in
-    (omega arith, omega (arith, v .col, v .small, so-far v))
+put-close-requires t c κs = let r = c .before .before .before .before .before .before .before .before .before .before .before .before .before .before .before .before .pre .1 in omega arith
 
-add-t54 : (t : ℕ) → print-wrapped-lts.Need-add-t54 (calls t) (print-wrapped-at t) print-wrapped.Post Inv-loop μ-loop
-add-t54 t c =
-    let v = c .before .before .before .before .before .before .before .loop .inv in
-    let u = ended v (c .before .before .before .before .before .before .loop-test .left) _ (c .before .before .before .put-close .ensures .0) in
-    omega (arith, u .whole, v .small)
+add-t63 : (t : ℕ) → print-wrapped-lts.Need-add-t63 (calls t) (print-wrapped-at t) print-wrapped.Post Inv-loop μ-loop
+add-t63 t c =
+    let v = c .before .before .before .before .before .before .loop .inv in
+    let u = breaking-whole v (c .before .before .before .before .before .loop-test .left) _ (c .before .before .put-close .ensures .0) in
+    omega (arith, u .whole, v .laying .small)
 
 returns-2 : (t : ℕ) → print-wrapped-lts.Need-returns-2 (calls t) (print-wrapped-at t) print-wrapped.Post Inv-loop μ-loop
 returns-2 t c = absurd (bad-found _ _ _ _ (c .before .before .before .before .before .pre .1 .3) (c .before .before .record-at .ensures) (c .enum-told .given .1))
 
-same-length : (t : ℕ) → print-wrapped-lts.Need-same-length (calls t) (print-wrapped-at t) print-wrapped.Post Inv-loop μ-loop
-same-length t c = search needs
+same-length-2 : (t : ℕ) → print-wrapped-lts.Need-same-length-2 (calls t) (print-wrapped-at t) print-wrapped.Post Inv-loop μ-loop
+same-length-2 t c = search needs
 
 returns-3 : (t : ℕ) → print-wrapped-lts.Need-returns-3 (calls t) (print-wrapped-at t) print-wrapped.Post Inv-loop μ-loop
 returns-3 t c =
     let a = c .before .before .before .before .before .before .before .before in
     let s = a .before .before .before in
     let e = c .before .before .put .ensures in
-    symbol-out _ _ _ _ _ _ _ _ _ (s .args .out .now) _ (symbol-found _ _ _ _ (s .pre .1 .3) (a .record-at .ensures) _ (c .before .before .before .before .before .before .node .given .1)) (e .0) (e .1)
+    let y = symbol-found _ _ _ _ (s .pre .1 .3) (a .record-at .ensures) _ (c .before .before .before .before .before .before .node .given .1) in
+    let o = symbol-out _ _ _ _ Wrap (s .args .width) (s .args .indent) (s .args .column) _ (s .args .out .now) _ y (e .0) (e .1) in
+    (o .0 .0, o .0 .1, o .1)
 
-same-length-2 : (t : ℕ) → print-wrapped-lts.Need-same-length-2 (calls t) (print-wrapped-at t) print-wrapped.Post Inv-loop μ-loop
-same-length-2 t c = search needs
+same-length-3 : (t : ℕ) → print-wrapped-lts.Need-same-length-3 (calls t) (print-wrapped-at t) print-wrapped.Post Inv-loop μ-loop
+same-length-3 t c = search needs
 
 returns-4 : (t : ℕ) → print-wrapped-lts.Need-returns-4 (calls t) (print-wrapped-at t) print-wrapped.Post Inv-loop μ-loop
 returns-4 t c =
@@ -344,40 +303,45 @@ returns-4 t c =
     let e = c .before .before .put-decimal .ensures in
     let r = c .before .before .before .before .before .enum-told2 .given .1 in
     let z = integer-value (s .args .t .now) (s .args .at) _ (integer-in _ _ _ (a .record-at .ensures) r) (c .before .before .before .before .wide-at .ensures) in
-    integer-out _ _ _ _ _ _ _ _ _ (s .args .out .now) _ (integer-found _ _ _ _ (s .pre .1 .3) (a .record-at .ensures) r) z (e .0) (e .1)
+    let y = integer-found _ _ _ _ (s .pre .1 .3) (a .record-at .ensures) r in
+    let o = integer-out _ _ _ _ Wrap (s .args .width) (s .args .indent) (s .args .column) _ (s .args .out .now) _ y z (e .0) (e .1) in
+    (o .0 .0, o .0 .1, o .1)
 
-same-length-3 : (t : ℕ) → print-wrapped-lts.Need-same-length-3 (calls t) (print-wrapped-at t) print-wrapped.Post Inv-loop μ-loop
-same-length-3 t c = search needs
+same-length-4 : (t : ℕ) → print-wrapped-lts.Need-same-length-4 (calls t) (print-wrapped-at t) print-wrapped.Post Inv-loop μ-loop
+same-length-4 t c = search needs
 
 returns-5 : (t : ℕ) → print-wrapped-lts.Need-returns-5 (calls t) (print-wrapped-at t) print-wrapped.Post Inv-loop μ-loop
 returns-5 t c =
     let a = c .before .before .before .before .before .before .before .before .before .before .before .before .before in
     let s = a .before .before .before in
     let k = c .before .before .before .before .before .before .before .before .put-name .ensures in
-    bound _ _ _ _ _ _ _ _ _ (k .0) (binding-found _ _ _ _ (s .pre .1 .3) (a .record-at .ensures) _ (c .before .before .before .before .before .before .before .before .before .before .before .node2 .given .1)) _ _ _ _ (s .args .out .now) _ _
-    (k .1) (c .before .before .before .before .before .least .ensures .1) (c .before .before .before .print-wrapped .ensures)
+    let e = c .before .before .before .print-wrapped .ensures in
+    let h = binding-found _ _ _ _ (s .pre .1 .3) (a .record-at .ensures) _ (c .before .before .before .before .before .before .before .before .before .before .before .node2 .given .1) in
+    let o = bound _ _ Wrap (s .args .width) (s .args .indent) (s .args .column) _ _ _ (k .0) h _ _ _ _ (s .args .out .now) _ _ (k .1) (c .before .before .before .before .before .least .ensures .1) ((e .0, e .1, refl), e .2) in
+    (o .0 .0, o .0 .1, o .1)
 
-same-length-4 : (t : ℕ) → print-wrapped-lts.Need-same-length-4 (calls t) (print-wrapped-at t) print-wrapped.Post Inv-loop μ-loop
-same-length-4 t c = search needs
+same-length-5 : (t : ℕ) → print-wrapped-lts.Need-same-length-5 (calls t) (print-wrapped-at t) print-wrapped.Post Inv-loop μ-loop
+same-length-5 t c = search needs
 
 returns-6 : (t : ℕ) → print-wrapped-lts.Need-returns-6 (calls t) (print-wrapped-at t) print-wrapped.Post Inv-loop μ-loop
 returns-6 t c =
-    let v = c .before .before .before .before .before .before .before .loop .inv in
-    let a = c .before .before .before .before .before .before .before .before .before .before .before .before .before .before .before .before .before in
+    let a = c .before .before .before .before .before .before .before .before .before .before .before .before .before .before .before .before in
     let s = a .before .before .before in
-    let e = c .before .before .before .put-close .ensures in
-    let h = list-found _ _ _ _ (s .pre .1 .3) (a .record-at .ensures) _ (c .before .before .before .before .before .before .before .before .before .before .before .before .before .before .before .node3 .given .1) in
-    laying-end v (c .before .before .before .before .before .before .loop-test .left) (s .args .mode) (s .args .out .now) h (c .before .before .before .before .before .before .before .before .before .before .before .before .before .choose .ensures (s .args .depth) (s .pre .1 .3) .1 (c .before .before .before .before .before .before .before .before .before .before .before .before .if1 .left))
-    (c .before .before .before .before .before .before .before .before .before .before .put-byte .ensures .1) _ _ _ _ (e .0) (e .1) (c .before .before .before .before .before .least4 .ensures .1) (e .2)
+    let r = s .pre .1 in
+    let h = list-found _ _ _ _ (r .3) (a .record-at .ensures) _ (c .before .before .before .before .before .before .before .before .before .before .before .before .before .before .node3 .given .1) in
+    let f = c .before .before .before .before .before .before .before .before .before .before .before .before .fits2 .ensures (s .args .depth) (r .3) in
+    let e = c .before .before .put-close .ensures in
+    breaking-end (c .before .before .before .before .before .before .loop .inv) (c .before .before .before .before .before .loop-test .left) (s .args .out .now) h (sym f ∙ c .before .before .before .before .before .before .before .before .before .before .before .if1 .left) (c .before .before .before .before .before .before .before .before .before .put-byte .ensures .1) _ _ _ (e .0)
+    (c .before .before .before .before .least4 .ensures .1) (e .1)
 
 pub +print-wrapped-spec : {M : Type 1} → statement M
 +print-wrapped-spec = close μ-print-wrapped λ t. print-wrapped-lts.spec (calls t) (print-wrapped-at t) print-wrapped.Post Inv-loop μ-loop
-    (record-at-requires t) (enum-told t) (enum-known-node t) (add-start t) (add-end t) (sub-put t) (part-put-start t) (part-put-end t) (put-requires t)
-    (add-t35 t) (enum-told-2 t) (add-wide-at t) (wide-at-requires t) (put-decimal-requires t) (add-t41 t) (add-t44 t) (enum-known-node-2 t)
+    (record-at-requires t) (enum-told t) (enum-known-node t) (add-start t) (add-end t) (sub-put t) (part-put-start t) (part-put-end t)
+    (put-requires t) (enum-told-2 t) (add-wide-at t) (wide-at-requires t) (put-decimal-requires t) (add-t37 t) (enum-known-node-2 t)
     (put-name-requires t) (least-requires t) (add-print-wrapped t) (sub-print-wrapped t) (add-print-wrapped-2 t) (sub-print-wrapped-2 t)
-    (part-print-wrapped-start t) (part-print-wrapped-end t) (print-wrapped-requires t) (add-t47 t) (enum-known-node-3 t) (choose-requires t) (add-t56 t)
-    (returns t) (put-byte-requires t) (add-p t) (add-c t) (loop-holds t) (least-requires-2 t) (sub-put-gap t) (part-put-gap-start t) (part-put-gap-end t)
-    (put-gap-requires t) (add-k t) (least-requires-3 t) (sub-print-wrapped-3 t) (sub-print-wrapped-4 t) (part-print-wrapped-start-2 t)
-    (part-print-wrapped-end-2 t) (print-wrapped-requires-2 t) (add-w t) (add-i t) (loop-less t) (loop-again t) (least-requires-4 t) (sub-put-close t)
-    (part-put-close-start t) (part-put-close-end t) (put-close-requires t) (add-t54 t) (returns-2 t) (same-length t) (returns-3 t) (same-length-2 t)
-    (returns-4 t) (same-length-3 t) (returns-5 t) (same-length-4 t) (returns-6 t)
+    (part-print-wrapped-start t) (part-print-wrapped-end t) (print-wrapped-requires t) (add-t42 t) (enum-known-node-3 t) (fits-requires t)
+    (print-flat-requires t) (same-length t) (returns t) (put-byte-requires t) (add-p t) (loop-holds t) (least-requires-2 t) (add-put-gap t)
+    (sub-put-gap t) (part-put-gap-start t) (part-put-gap-end t) (put-gap-requires t) (add-k t) (least-requires-3 t) (sub-print-wrapped-3 t)
+    (sub-print-wrapped-4 t) (part-print-wrapped-start-2 t) (part-print-wrapped-end-2 t) (print-wrapped-requires-2 t) (add-w t) (add-i t) (loop-less t)
+    (loop-again t) (least-requires-4 t) (sub-put-close t) (part-put-close-start t) (part-put-close-end t) (put-close-requires t) (add-t63 t)
+    (returns-2 t) (same-length-2 t) (returns-3 t) (same-length-3 t) (returns-4 t) (same-length-4 t) (returns-5 t) (same-length-5 t) (returns-6 t)

@@ -40,7 +40,7 @@ add-end c =
     let s = c .before .before .before .before .before .before .before .before .before .before .before .before in
     let l = laid-in (s .args .t .now) (s .args .at) (s .args .width) (λ i. (c .before .before .before .before .before .before .before .before .before .before .before .shared-slice-known .given i) .fits) (s .pre .0) (s .pre .2) in
     let f = found-end (s .args .t .now) depthLimit (s .args .at) (s .pre .0) (s .pre .2) in
-    omega (arith, c .before .before .before .before .before .before .before .before .put-between .ensures .0, between-le (ltb 0 (s .args .at)), c .before .before .before .print-wrapped .ensures .0 .1, s .pre .1)
+    omega (arith, c .before .before .before .before .before .before .before .before .put-between .ensures .0, between-le (ltb 0 (s .args .at)), c .before .before .before .print-wrapped .ensures .1, s .pre .1)
 
 least-requires-2 : tie.Need-least-requires-2
 least-requires-2 c κs = search needs
@@ -62,7 +62,7 @@ add-t14 c =
     let s = c .before .before .before .before .before .before .before .before .before .before .before .before .before .before .before .before .before in
     let l = laid-in (s .args .t .now) (s .args .at) (s .args .width) (λ i. (c .before .before .before .before .before .before .before .before .before .before .before .before .before .before .before .before .shared-slice-known .given i) .fits) (s .pre .0) (s .pre .2) in
     let f = found-end (s .args .t .now) depthLimit (s .args .at) (s .pre .0) (s .pre .2) in
-    omega (arith, c .before .before .before .before .before .before .before .before .before .before .before .before .before .put-between .ensures .0, between-le (ltb 0 (s .args .at)), c .before .before .before .before .before .before .before .before .print-wrapped .ensures .0 .1, c .before .before .put-byte .ensures .0, s .pre .1)
+    omega (arith, c .before .before .before .before .before .before .before .before .before .before .before .before .before .put-between .ensures .0, between-le (ltb 0 (s .args .at)), c .before .before .before .before .before .before .before .before .print-wrapped .ensures .1, c .before .before .put-byte .ensures .0, s .pre .1)
 
 same-length : tie.Need-same-length
 same-length c = search needs
@@ -73,8 +73,8 @@ returns c =
     let e = c .before .before .before .before .before .before .before .before .print-wrapped .ensures in
     let k = c .before .before .put-byte .ensures in
     let s = c .before .before .before .before .before .before .before .before .before .before .before .before .before .before .before .before .before .args in
-    let n = node-out (ltb 0 (s .at)) (treeOf (treeAt (s .t .now) true depthLimit (s .at))) (s .width) _ _ _ _ _ (s .out .now) _ _ _ _ (a .0) (a .1) (c .before .before .before .before .before .before .before .before .before .before .least .ensures .1) (e .0 .1) (e .1) refl (c .before .before .before .before .least2 .ensures .1) (k .0) (k .1) in
-    (e .0 .0, n .0, n .1)
+    let n = node-out (ltb 0 (s .at)) (treeOf (treeAt (s .t .now) true depthLimit (s .at))) (s .width) _ _ _ _ _ (s .out .now) _ _ _ _ (a .0) (a .1) (c .before .before .before .before .before .before .before .before .before .before .least .ensures .1) (e .1) (e .2) refl (c .before .before .before .before .least2 .ensures .1) (k .0) (k .1) in
+    (e .0, n .0, n .1)
 
 pub print-node-spec : {M : Type 1} → statement M
 print-node-spec =
