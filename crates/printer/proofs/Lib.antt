@@ -4,7 +4,6 @@ pub mod Singles
 pub mod Entries
 pub mod Dues
 pub mod Rooms
-pub mod Blocks
 pub mod Spaces
 pub mod Bounds
 pub mod Laying
