@@ -8,3 +8,5 @@ pub mod Spaces
 pub mod Bounds
 pub mod Laying
 pub mod Pages
+pub mod Sizes
+pub mod Walks
