@@ -352,3 +352,119 @@ breaks-le n i h l =
     let a : n - 1 ≤ 4294967295 = omega arith in
     let b : 4 * i + 5 ≤ 261 = omega arith in
     le-trans (mul-le-mul-left (n - 1) b) (mul-le-mul-right 261 a)
+
+-- ---- trees up to the table's end: n bytes are those of the trees before p, and k is fuel enough
+
+pub record Paged (t : List ℕ) (w p n : ℕ) : Type 0 where
+  pub k : ℕ
+  pub enough : length t < k + p
+  -- the trees done, before those that are left
+  pub pre : Trees → Trees
+  pub whole : tableOf true t ≡ andThen (treesAt t true k p) (λ ys q. found (pre ys) q)
+  pub paged : (ys : Trees) → length (page (pre ys) w) ≡ n + length (pageFrom (ltb 0 p) ys w)
+  pub within : p ≤ length t
+  pub limit : length t ≤ tableLimit
+  pub size : n ≤ 128 * p
+
+pub too-long : (t : List ℕ) (w : ℕ) → tableLimit < length t → Summed (tableOf true t) w (Refused (record { number = tooLong; place = tableLimit }))
+unfolding tableOf
+too-long t w h = rw (lt-ltb tableLimit (length t) h) (refl, refl)
+
+pub paged-begin : (t : List ℕ) (w : ℕ) → length t ≤ tableLimit → Paged t w 0 0
+unfolding tableOf
+paged-begin t w h = record {
+  k = length t + 1;
+  enough = omega arith;
+  pre = λ ys. ys;
+  whole = rw (le-ltb tableLimit (length t) h) (all-of (treesAt t true (length t + 1) 0));
+  paged = λ ys. omega arith;
+  within = omega arith;
+  limit = h;
+  size = omega arith;
+}
+
+-- the LF between two trees
+abbrev lead : ℕ → List ℕ
+lead p = cond (ltb 0 p) (10 ∷ []) []
+
+pub lead-some : (p n n′ : ℕ) → 0 < p → n′ ≡ n + 1 → n′ ≡ n + length (lead p)
+lead-some p n n′ h e = rw (lt-ltb 0 p h) e
+
+pub lead-none : (p n n′ : ℕ) → p ≤ 0 → n′ ≡ n → n′ ≡ n + length (lead p)
+lead-none p n n′ h e = rw (le-ltb 0 p h) (e ∙ omega arith)
+
+lead-le : (b : Bool) → length {A = ℕ} (cond b (10 ∷ []) []) ≤ 1
+lead-le true = omega arith
+lead-le false = omega arith
+
+more-size : (later : Bool) (x : Tree) (xs : Trees) (w : ℕ)
+    → length (pageFrom later (more x xs) w) ≡ length {A = ℕ} (cond later (10 ∷ []) []) + length (bytes (lay x Wrap w 0 0)) + 1 + length (pageFrom true xs w)
+unfolding pageFrom
+more-size later x xs w =
+    let o : List ℕ = cond later (10 ∷ []) [] in
+    let l : List ℕ = bytes (lay x Wrap w 0 0) in
+    let r : List ℕ = 10 ∷ pageFrom true xs w in
+    let a = length-append o (l ++ r) in
+    let b = length-append l r in
+    omega arith
+
+trees-more : (t : List ℕ) (k p q : ℕ) (x : Tree) → p < length t → treeAt t true depthLimit p ≡ found x q
+    → treesAt t true (suc k) p ≡ andThen (treesAt t true k q) (λ xs r. found (more x xs) r)
+unfolding treesAt
+trees-more t k p q x h e = rw (lt-ltb p (length t) h, e) refl
+
+module _ (t : List ℕ) (w p n : ℕ) (g : Paged t w p n) where
+  -- n′ counts the LF before the tree
+  pub paged-tree : (n′ : ℕ) (m : Size) → Bytes t → p < length t → Sized (treeAt t true depthLimit p) w 0 0 m → m .number ≤ 0 → n′ ≡ n + length (lead p)
+      → (p < m .place) × Paged t w (m .place) (n′ + m .len + 1)
+  paged-tree n′ m hb h s l en = by (g .k) (g .enough) (g .whole)
+    where
+      y : Got t depthLimit p w 0 0 (m .place) (m .cost) (m .empty) (m .len)
+      y = got-tree t depthLimit p w 0 0 m s l
+
+      v : Small t p (m .place) (m .cost) (m .empty) (m .len)
+      v = small t depthLimit p w 0 0 (m .place) (m .cost) (m .empty) (m .len) hb (g .within) (omega arith) y
+
+      by : (k : ℕ) → length t < k + p → tableOf true t ≡ andThen (treesAt t true k p) (λ ys q. found (g .pre ys) q)
+          → (p < m .place) × Paged t w (m .place) (n′ + m .len + 1)
+      by zero f e = absurd (omega arith)
+      by (suc k) f e = (v .past, record {
+        k = k;
+        enough = omega (arith, v .past);
+        pre = λ ys. g .pre (more (y .tree) ys);
+        whole =
+            e
+            ∙ ap (λ (u : Found Trees). andThen u (λ ys r. found (g .pre ys) r)) (trees-more t k p (m .place) (y .tree) h (y .is))
+            ∙ then-more (y .tree) (g .pre) (treesAt t true k (m .place));
+        paged =
+            λ ys.
+                g .paged (more (y .tree) ys)
+                ∙ rw (lt-ltb 0 (m .place) (omega (arith, v .past))) (omega (arith, more-size (ltb 0 p) (y .tree) ys w, y .lays-it));
+        within = v .within;
+        limit = g .limit;
+        size = omega (arith, g .size, lead-le (ltb 0 p), v .lays, v .past);
+      })
+
+  pub paged-stop : (m : Size) → p < length t → Sized (treeAt t true depthLimit p) w 0 0 m → 0 < m .number
+      → Summed (tableOf true t) w (Refused (record { number = m .number; place = m .place }))
+  unfolding treesAt
+  paged-stop m h s l = by (g .k) (g .enough) (g .whole) (treeAt t true depthLimit p) refl s
+    where
+      by : (k : ℕ) → length t < k + p → tableOf true t ≡ andThen (treesAt t true k p) (λ ys q. found (g .pre ys) q) → (y : Found Tree) → treeAt t true depthLimit p ≡ y
+          → Sized y w 0 0 m → Summed (tableOf true t) w (Refused (record { number = m .number; place = m .place }))
+      by zero f e y ey u = absurd (omega arith)
+      by (suc k) f e (found x q) ey u = absurd (omega (arith, u .0))
+      by (suc k) f e (refused b a) ey u =
+          let z : tableOf true t ≡ refused b a = e ∙ rw (lt-ltb p (length t) h, ey) refl in
+          rw z (u .0, u .2)
+
+  pub paged-end : length t ≤ p → Summed (tableOf true t) w (Text n)
+  unfolding treesAt pageFrom
+  paged-end h = rw (by (g .k) (g .whole)) (sym (g .paged none ∙ size))
+    where
+      by : (k : ℕ) → tableOf true t ≡ andThen (treesAt t true k p) (λ ys q. found (g .pre ys) q) → tableOf true t ≡ found (g .pre none) p
+      by zero e = e
+      by (suc k) e = e ∙ rw (le-ltb p (length t) h) refl
+
+      size : n + length (pageFrom (ltb 0 p) none w) ≡ n
+      size = omega arith
