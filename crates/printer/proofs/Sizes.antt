@@ -1,12 +1,12 @@
 -- The sizes of trees: what a tree takes on a single line, what a wrapped list takes, and that both are bounded by the records. Assumes nothing.
 use mathlib.Core.Path.{_≡_, refl, _∙_}
-use mathlib.Core.Bool.{Bool, true, false, cond}
+use mathlib.Core.Bool.{Bool, true, false}
 use mathlib.Core.List.{List, [], _∷_, _++_}
 use Prim.Native.Nat.{ℕ, _+_, _*_, _-_, _≤_, _<_}
 use native.Mathlib.Omega.{arith}
 use native.Mathlib.Nat.{add-mul}
 use lib.ListN.{length, replicate, length-append, length-replicate}
-use lib.Dec.{leb, lit≤}
+use lib.Dec.{lit≤}
 use borrow.Author.Tests.{le-leb, lt-leb}
 use Rattle.wide.specs.Bytes.{le, wideBytes}
 use Rattle.wide.proofs.Numbers.{wide-length}

@@ -1,11 +1,11 @@
 -- The walk that checks a table and measures it: a record, the items of a list one by one, and trees up to the table's end.
 -- Assumes that the table's elements are bytes.
 use mathlib.Core.Path.{_≡_, refl, ap, sym, subst, subst⁻¹, _∙_}
-use mathlib.Core.Bool.{Bool, true, false, cond, _&&_}
+use mathlib.Core.Bool.{Bool, true, false, cond}
 use mathlib.Core.List.{List, [], _∷_, _++_}
 use Prim.Native.Nat.{ℕ, zero, suc, _+_, _*_, _-_, _^_, _≤_, _<_}
 use native.Mathlib.Omega.{arith}
-use native.Mathlib.Nat.{pos-of-ne-zero, mul-le-mul-left, mul-le-mul-right, le-trans}
+use native.Mathlib.Nat.{pos-of-ne-zero, mul-le-mul-left}
 use lib.ListN.{length, length-append}
 use lib.IntN.{ℤ}
 use lib.Dec.{ltb, eqb, lit<}
@@ -25,9 +25,7 @@ use Rattle.table.proofs.Decoded.{Holds, tree-holds, part-lt}
 use Rattle.printer.specs.Layout.{Wrap, bytes, named, lay, cost, costs, pageFrom, page}
 use Rattle.printer.specs.Measuring.{alone, empties, emptiesOf, Named, Sized, Summed, itemIndent, itemColumn}
 use Rattle.printer.specs.declared.measure.Size.{Size}
-use Rattle.printer.specs.declared.measure.Measured.{Measured}
 use Rattle.printer.specs.declared.measure.Measured.the-variants.{Bytes as Text, Refused}
-use Rattle.refusals.specs.declared.Refusal.{Refusal}
 use Rattle.printer.proofs.Singles.{named-size}
 use Rattle.printer.proofs.Bounds.{inner-le}
 use Rattle.printer.proofs.Sizes.{sums, wide-size, line-size, lay-len, line-len}
@@ -346,12 +344,17 @@ pub column-le : (first : Bool) (c : ℕ) → itemColumn first c ≤ c + 1
 column-le true c = omega arith
 column-le false c = omega arith
 
--- the line breaks of a wrapped list
-pub breaks-le : (n i : ℕ) → n < 4294967296 → i ≤ depthLimit → (n - 1) * (4 * i + 5) ≤ 4294967295 * 261
-breaks-le n i h l =
-    let a : n - 1 ≤ 4294967295 = omega arith in
+-- k line breaks of a wrapped list, and b bytes besides
+breaks-lt : (k i : ℕ) → k ≤ 4294967295 → i ≤ depthLimit → k * (4 * i + 5) < 2 ^ 41
+breaks-lt k i h l =
     let b : 4 * i + 5 ≤ 261 = omega arith in
-    le-trans (mul-le-mul-left (n - 1) b) (mul-le-mul-right 261 a)
+    omega (arith, mul-le-mul-left k b)
+
+pub breaks-fit : (k i : ℕ) → k ≤ 4294967295 → i ≤ depthLimit → k * (4 * i + 5) < 2 ^ 64
+breaks-fit k i h l = omega (arith, breaks-lt k i h l)
+
+pub laid-fit : (b k i : ℕ) → b ≤ 8589934592 → k ≤ 4294967295 → i ≤ depthLimit → b + k * (4 * i + 5) < 2 ^ 64
+laid-fit b k i hb h l = omega (arith, breaks-lt k i h l)
 
 -- ---- trees up to the table's end: n bytes are those of the trees before p, and k is fuel enough
 
@@ -428,22 +431,25 @@ module _ (t : List ℕ) (w p n : ℕ) (g : Paged t w p n) where
       by : (k : ℕ) → length t < k + p → tableOf true t ≡ andThen (treesAt t true k p) (λ ys q. found (g .pre ys) q)
           → (p < m .place) × Paged t w (m .place) (n′ + m .len + 1)
       by zero f e = absurd (omega arith)
-      by (suc k) f e = (v .past, record {
-        k = k;
-        enough = omega (arith, v .past);
-        pre = λ ys. g .pre (more (y .tree) ys);
-        whole =
-            e
-            ∙ ap (λ (u : Found Trees). andThen u (λ ys r. found (g .pre ys) r)) (trees-more t k p (m .place) (y .tree) h (y .is))
-            ∙ then-more (y .tree) (g .pre) (treesAt t true k (m .place));
-        paged =
-            λ ys.
-                g .paged (more (y .tree) ys)
-                ∙ rw (lt-ltb 0 (m .place) (omega (arith, v .past))) (omega (arith, more-size (ltb 0 p) (y .tree) ys w, y .lays-it));
-        within = v .within;
-        limit = g .limit;
-        size = omega (arith, g .size, lead-le (ltb 0 p), v .lays, v .past);
-      })
+      by (suc k) f e = (
+        v .past,
+        record {
+          k = k;
+          enough = omega (arith, v .past);
+          pre = λ ys. g .pre (more (y .tree) ys);
+          whole =
+              e
+              ∙ ap (λ (u : Found Trees). andThen u (λ ys r. found (g .pre ys) r)) (trees-more t k p (m .place) (y .tree) h (y .is))
+              ∙ then-more (y .tree) (g .pre) (treesAt t true k (m .place));
+          paged =
+              λ ys.
+              g .paged (more (y .tree) ys)
+              ∙ rw (lt-ltb 0 (m .place) (omega (arith, v .past))) (omega (arith, more-size (ltb 0 p) (y .tree) ys w, y .lays-it));
+          within = v .within;
+          limit = g .limit;
+          size = omega (arith, g .size, lead-le (ltb 0 p), v .lays, v .past);
+        },
+      )
 
   pub paged-stop : (m : Size) → p < length t → Sized (treeAt t true depthLimit p) w 0 0 m → 0 < m .number
       → Summed (tableOf true t) w (Refused (record { number = m .number; place = m .place }))

@@ -1,7 +1,7 @@
 -- `printer::measure::measure_tree` and `measure_list`, which call each other: the depth still allowed falls from a tree to the trees below it.
 use mathlib.Core.Path.{refl}
 use mathlib.Core.Logic.{⊎-elim}
-use Prim.Native.Nat.{ℕ, _+_, _*_, _-_, _<_}
+use Prim.Native.Nat.{ℕ, _+_, _*_, _-_, _≤_, _<_}
 use native.Mathlib.Omega.{arith}
 use native.Mathlib.Nat.{pos-of-ne-zero}
 use borrow.Author.Needs.{needs}
@@ -11,7 +11,7 @@ use Rattle.table.proofs.Reading.{symbol-in, binding-in, integer-in, list-in}
 use Rattle.printer.specs.Layout.{Wrap}
 use Rattle.printer.proofs.Bounds.{inner-le}
 use Rattle.printer.proofs.Walks.{got-tree, got-name, small, at-bad, symbol-bad, symbol-good, at-integer, binding-deep, binding-bad, binding-stop, binding-good, list-deep, at-list, list-small}
-use Rattle.printer.proofs.Walks.{Walk, walk-begin, walk-name, walk-tree, walk-stop, walk-line, walk-wide, none-sized, column-le, breaks-le}
+use Rattle.printer.proofs.Walks.{Walk, walk-begin, walk-name, walk-tree, walk-stop, walk-line, walk-wide, none-sized, column-le, breaks-fit, laid-fit}
 use borrow.Fn.Kinds.{In}
 use borrow.Fn.PlainCycle.{Measures, is, falls, and}
 use Rattle.printer.proofs.measure.measure_list.Reads as measure-list
@@ -101,6 +101,31 @@ measure-list-Inv-loop t at n depth width indent column p₀ i₀ cost₀ empty�
 abbrev measure-list-μ-loop : measure-list-lts.MeasureT-loop
 measure-list-μ-loop t at n depth width indent column p₀ i₀ cost₀ empty₀ len₀ p i cost empty len = n - i
 
+-- no sum wraps where a symbol is counted in, and where another tree is: the walk past it is bounded
+measure-list-named : (t : ℕ) (c : measure-list-lts.Then2 (measure-list-calls t) (measure-list-at t) measure-list.Post measure-list-Inv-loop measure-list-μ-loop)
+    → (c .before .before .before .loop .cost + (c .before .past-name .result - c .before .before .before .loop .p - 6) ≤ 8589934592)
+    × (c .before .before .before .loop .len + (c .before .past-name .result - c .before .before .before .loop .p - 6) ≤ 8589934592)
+measure-list-named t c =
+    let l = c .before .before .before .loop in
+    let b = c .before .before .before .before .before in
+    let h = b .before .pre .1 in
+    let g =
+    walk-name _ _ _ _ _ _ _ _ _ _ _ _ (l .inv .1) (c .before .before .loop-test .taken) _ _ _ _ _ (λ i. (b .shared-slice-known .given i) .fits) (h .2) (c .before .past-name .ensures) (c .if2 .taken) refl refl refl refl in
+    (omega (arith, g .lines, g .from, g .within, h .1, h .4), omega (arith, g .lays, g .from, g .within, h .1, h .2))
+
+measure-list-treed : (t : ℕ) (c : measure-list-lts.After-struct-known2 (measure-list-calls t) (measure-list-at t) measure-list.Post measure-list-Inv-loop measure-list-μ-loop)
+    → (c .before .before .before .before .before .before .before .before .before .loop .cost + c .before .before .before .measure-tree .result .cost ≤ 8589934592)
+    × (c .before .before .before .before .before .before .before .before .before .loop .empty + c .before .before .before .measure-tree .result .empty ≤ 8589934592)
+    × (c .before .before .before .before .before .before .before .before .before .loop .len + c .before .before .before .measure-tree .result .len ≤ 8589934592)
+measure-list-treed t c =
+    let l = c .before .before .before .before .before .before .before .before .before .loop in
+    let b = c .before .before .before .before .before .before .before .before .before .before .before in
+    let h = b .before .pre .1 in
+    let g =
+    walk-tree _ _ _ _ _ _ _ _ _ _ _ _ (l .inv .1) (c .before .before .before .before .before .before .before .before .loop-test .taken) _ _ _ _ _ _ _ (λ i. (b .shared-slice-known .given i) .fits) (h .2) (c .before .before .before .before .before .inner .ensures) (c .before .before .before .before .begins .ensures)
+    (c .before .before .before .measure-tree .ensures) (c .before .if3 .left) refl refl refl refl in
+    (omega (arith, g .lines, g .from, g .within, h .1, h .4), omega (arith, g .lines, g .from, g .within, h .1, h .4), omega (arith, g .lays, g .from, g .within, h .1, h .2))
+
 measure-list-returns : (t : ℕ) → measure-list-lts.Need-returns (measure-list-calls t) (measure-list-at t) measure-list.Post measure-list-Inv-loop measure-list-μ-loop
 measure-list-returns t c = none-sized _ _ _ _ _ _ _ _ (c .if1 .taken) (refl, refl, refl, refl, refl)
 
@@ -126,20 +151,10 @@ measure-list-sub-k-2 : (t : ℕ) → measure-list-lts.Need-sub-k-2 (measure-list
 measure-list-sub-k-2 t c = omega (arith, got-name _ 0 _ 0 0 0 _ (c .before .past-name .ensures) (c .if2 .taken) .0)
 
 measure-list-add-cost-2 : (t : ℕ) → measure-list-lts.Need-add-cost-2 (measure-list-calls t) (measure-list-at t) measure-list.Post measure-list-Inv-loop measure-list-μ-loop
-measure-list-add-cost-2 t c =
-    let l = c .before .before .before .loop in
-    let b = c .before .before .before .before .before in
-    let h = b .before .pre .1 in
-    let g = walk-name _ _ _ _ _ _ _ _ _ _ _ _ (l .inv .1) (c .before .before .loop-test .taken) _ _ _ _ _ (λ i. (b .shared-slice-known .given i) .fits) (h .2) (c .before .past-name .ensures) (c .if2 .taken) refl refl refl refl in
-    omega (arith, g .lines, g .from, g .within, h .1, h .2, h .4)
+measure-list-add-cost-2 t c = omega (arith, measure-list-named t c .0)
 
 measure-list-add-len-2 : (t : ℕ) → measure-list-lts.Need-add-len-2 (measure-list-calls t) (measure-list-at t) measure-list.Post measure-list-Inv-loop measure-list-μ-loop
-measure-list-add-len-2 t c =
-    let l = c .before .before .before .loop in
-    let b = c .before .before .before .before .before in
-    let h = b .before .pre .1 in
-    let g = walk-name _ _ _ _ _ _ _ _ _ _ _ _ (l .inv .1) (c .before .before .loop-test .taken) _ _ _ _ _ (λ i. (b .shared-slice-known .given i) .fits) (h .2) (c .before .past-name .ensures) (c .if2 .taken) refl refl refl refl in
-    omega (arith, g .lays, g .from, g .within, h .1, h .2, h .4)
+measure-list-add-len-2 t c = omega (arith, measure-list-named t c .1)
 
 measure-list-inner-requires : (t : ℕ) → measure-list-lts.Need-inner-requires (measure-list-calls t) (measure-list-at t) measure-list.Post measure-list-Inv-loop measure-list-μ-loop
 measure-list-inner-requires t c κs = search needs
@@ -166,28 +181,13 @@ measure-list-returns-2 t c =
     walk-stop _ _ _ _ _ _ _ _ _ _ _ _ (l .inv .1) (c .before .before .before .before .before .before .before .before .loop-test .taken) _ _ _ _ (c .before .before .before .measure-tree .ensures) (c .before .if3 .taken) (c .stopped .ensures)
 
 measure-list-add-cost-3 : (t : ℕ) → measure-list-lts.Need-add-cost-3 (measure-list-calls t) (measure-list-at t) measure-list.Post measure-list-Inv-loop measure-list-μ-loop
-measure-list-add-cost-3 t c =
-    let l = c .before .before .before .before .before .before .before .before .before .loop in
-    let b = c .before .before .before .before .before .before .before .before .before .before .before in
-    let h = b .before .pre .1 in
-    let g = walk-tree _ _ _ _ _ _ _ _ _ _ _ _ (l .inv .1) (c .before .before .before .before .before .before .before .before .loop-test .taken) _ _ _ _ _ _ _ (λ i. (b .shared-slice-known .given i) .fits) (h .2) (c .before .before .before .before .before .inner .ensures) (c .before .before .before .before .begins .ensures) (c .before .before .before .measure-tree .ensures) (c .before .if3 .left) refl refl refl refl in
-    omega (arith, g .lines, g .from, g .within, h .1, h .2, h .4)
+measure-list-add-cost-3 t c = omega (arith, measure-list-treed t c .0)
 
 measure-list-add-empty : (t : ℕ) → measure-list-lts.Need-add-empty (measure-list-calls t) (measure-list-at t) measure-list.Post measure-list-Inv-loop measure-list-μ-loop
-measure-list-add-empty t c =
-    let l = c .before .before .before .before .before .before .before .before .before .before .loop in
-    let b = c .before .before .before .before .before .before .before .before .before .before .before .before in
-    let h = b .before .pre .1 in
-    let g = walk-tree _ _ _ _ _ _ _ _ _ _ _ _ (l .inv .1) (c .before .before .before .before .before .before .before .before .before .loop-test .taken) _ _ _ _ _ _ _ (λ i. (b .shared-slice-known .given i) .fits) (h .2) (c .before .before .before .before .before .before .inner .ensures) (c .before .before .before .before .before .begins .ensures) (c .before .before .before .before .measure-tree .ensures) (c .before .before .if3 .left) refl refl refl refl in
-    omega (arith, g .lines, g .from, g .within, h .1, h .2, h .4)
+measure-list-add-empty t c = omega (arith, measure-list-treed t (c .before) .1)
 
 measure-list-add-len-3 : (t : ℕ) → measure-list-lts.Need-add-len-3 (measure-list-calls t) (measure-list-at t) measure-list.Post measure-list-Inv-loop measure-list-μ-loop
-measure-list-add-len-3 t c =
-    let l = c .before .before .before .before .before .before .before .before .before .before .before .loop in
-    let b = c .before .before .before .before .before .before .before .before .before .before .before .before .before in
-    let h = b .before .pre .1 in
-    let g = walk-tree _ _ _ _ _ _ _ _ _ _ _ _ (l .inv .1) (c .before .before .before .before .before .before .before .before .before .before .loop-test .taken) _ _ _ _ _ _ _ (λ i. (b .shared-slice-known .given i) .fits) (h .2) (c .before .before .before .before .before .before .before .inner .ensures) (c .before .before .before .before .before .before .begins .ensures) (c .before .before .before .before .before .measure-tree .ensures) (c .before .before .before .if3 .left) refl refl refl refl in
-    omega (arith, g .lays, g .from, g .within, h .1, h .2, h .4)
+measure-list-add-len-3 t c = omega (arith, measure-list-treed t (c .before .before) .2)
 
 measure-list-add-i : (t : ℕ) → measure-list-lts.Need-add-i (measure-list-calls t) (measure-list-at t) measure-list.Post measure-list-Inv-loop measure-list-μ-loop
 measure-list-add-i t c = search needs
@@ -201,13 +201,12 @@ measure-list-loop-again t c =
     let b = c .before .before .before .before .before in
     let h = b .before .pre .1 in
     let lt = c .before .before .loop-test .taken in
-    let hb : Bytes (b .before .args .t .now) = λ i. (b .shared-slice-known .given i) .fits in
-    (
+    let hb : Bytes (b .before .args .t .now) = λ i. (b .shared-slice-known .given i) .fits in (
       l .inv .0,
       ⊎-elim
-      (λ v. walk-name _ _ _ _ _ _ _ _ _ _ _ _ (l .inv .1) lt _ _ _ _ _ hb (h .2) (c .before .past-name .ensures) (v .0 .taken) (v .1) (v .2) (v .3) (v .4))
-      (λ v. walk-tree _ _ _ _ _ _ _ _ _ _ _ _ (l .inv .1) lt _ _ _ _ _ _ _ hb (h .2) (v .1 .ensures) (v .2 .ensures) (v .3 .ensures) (v .5 .left) (v .9) (v .10) (v .11) (v .12))
-      (c .if2 .came),
+          (λ v. walk-name _ _ _ _ _ _ _ _ _ _ _ _ (l .inv .1) lt _ _ _ _ _ hb (h .2) (c .before .past-name .ensures) (v .0 .taken) (v .1) (v .2) (v .3) (v .4))
+          (λ v. walk-tree _ _ _ _ _ _ _ _ _ _ _ _ (l .inv .1) lt _ _ _ _ _ _ _ hb (h .2) (v .1 .ensures) (v .2 .ensures) (v .3 .ensures) (v .5 .left) (v .9) (v .10) (v .11) (v .12))
+          (c .if2 .came),
     )
 
 measure-list-add-if4 : (t : ℕ) → measure-list-lts.Need-add-if4 (measure-list-calls t) (measure-list-at t) measure-list.Post measure-list-Inv-loop measure-list-μ-loop
@@ -239,22 +238,28 @@ measure-list-add-t26 : (t : ℕ) → measure-list-lts.Need-add-t26 (measure-list
 measure-list-add-t26 t c = search needs
 
 measure-list-mul-t27 : (t : ℕ) → measure-list-lts.Need-mul-t27 (measure-list-calls t) (measure-list-at t) measure-list.Post measure-list-Inv-loop measure-list-μ-loop
-measure-list-mul-t27 t c =
-    let l = c .before .before .loop in
-    let b = c .before .before .before .before in
-    let h = b .before .pre .1 in
-    omega (arith, breaks-le (b .before .args .n) (b .before .args .indent) (h .4) (omega (arith, h .2)))
+measure-list-mul-t27 t c = let h = c .before .before .before .before .before .pre .1 in record { fits = breaks-fit _ _ (omega (arith, h .4)) (omega (arith, h .2)) }
 
 measure-list-add-t28 : (t : ℕ) → measure-list-lts.Need-add-t28 (measure-list-calls t) (measure-list-at t) measure-list.Post measure-list-Inv-loop measure-list-μ-loop
 measure-list-add-t28 t c =
-    let l = c .before .before .loop in
-    let b = c .before .before .before .before in
-    let h = b .before .pre .1 in
-    let g = l .inv .1 in
-    omega (arith, breaks-le (b .before .args .n) (b .before .args .indent) (h .4) (omega (arith, h .2)), g .lays, g .from, g .within, h .1, h .2)
+    let h = c .before .before .before .before .before .pre .1 in
+    let g = c .before .before .loop .inv .1 in
+    record { fits = laid-fit _ _ _ (omega (arith, g .lays, g .from, g .within, h .1, h .2)) (omega (arith, h .4)) (omega (arith, h .2)) }
 
 measure-list-returns-4 : (t : ℕ) → measure-list-lts.Need-returns-4 (measure-list-calls t) (measure-list-at t) measure-list.Post measure-list-Inv-loop measure-list-μ-loop
-measure-list-returns-4 t c = let l = c .before .before .loop in walk-wide _ _ _ _ _ _ _ _ _ _ _ _ (l .inv .1) (c .before .loop-test .left) (l .inv .0) _ (c .if4 .left) (refl, refl, refl, refl, refl)
+measure-list-returns-4 t c = let l = c .before .before .loop in walk-wide _ _ _ _ _ _ _ _ _ _ _ _ (l .inv .1) (c .before .loop-test .left) (l .inv .0) _ (c .if4 .left) (refl, refl, refl, refl, omega arith)
+
+-- no sum wraps at a binding
+measure-tree-bound : (t : ℕ) (c : measure-tree-lts.After-struct-known2 (measure-tree-calls t) (measure-tree-at t) measure-tree.Post)
+    → (c .before .before .before .before .before .before .before .before .node2 .given .0 .0 - 3 + c .before .before .before .measure-tree .result .cost ≤ 8589934592)
+    × (c .before .before .before .before .before .before .before .before .node2 .given .0 .0 - 3 + c .before .before .before .measure-tree .result .len ≤ 8589934592)
+measure-tree-bound t c =
+    let h = c .before .before .before .before .before .before .before .before .before .before .before .before .pre .1 in
+    let z = pos-of-ne-zero (c .before .before .before .before .before .before .if2 .left) in
+    let n = binding-in _ _ _ _ (c .before .before .before .before .before .before .before .before .before .before .record-at .ensures) (c .before .before .before .before .before .before .before .before .node2 .given .1) in
+    let y = got-tree _ _ _ _ _ _ _ (c .before .before .before .measure-tree .ensures) (c .before .if4 .left) in
+    let g = small _ _ _ _ _ _ _ _ _ _ (λ i. (c .before .before .before .before .before .before .before .before .before .before .before .shared-slice-known .given i) .fits) (omega (arith, h .0, n .1)) (omega (arith, h .2)) y in
+    (omega (arith, g .lines, g .within, h .0, h .1, n .1), omega (arith, g .lays, g .within, h .0, h .1, n .1))
 
 measure-tree-record-at-requires : (t : ℕ) → measure-tree-lts.Need-record-at-requires (measure-tree-calls t) (measure-tree-at t) measure-tree.Post
 measure-tree-record-at-requires t c κs = search needs
@@ -331,24 +336,10 @@ measure-tree-returns-3 : (t : ℕ) → measure-tree-lts.Need-returns-3 (measure-
 measure-tree-returns-3 t c = binding-stop _ _ _ _ (c .before .before .before .before .before .before .before .before .before .before .record-at .ensures) _ _ _ _ _ _ _ (c .before .before .before .before .before .before .before .before .node2 .given .1) (c .before .before .before .before .before .before .if2 .left) (c .before .before .before .before .before .is-name2 .ensures) (c .before .before .before .before .if3 .taken) (c .before .before .before .measure-tree .ensures) (c .before .if4 .taken) (c .stopped4 .ensures)
 
 measure-tree-add-t19 : (t : ℕ) → measure-tree-lts.Need-add-t19 (measure-tree-calls t) (measure-tree-at t) measure-tree.Post
-measure-tree-add-t19 t c =
-    let s = c .before .before .before .before .before .before .before .before .before .before .before .before in
-    let h = s .pre .1 in
-    let z = pos-of-ne-zero (c .before .before .before .before .before .before .if2 .left) in
-    let n = binding-in _ _ _ _ (c .before .before .before .before .before .before .before .before .before .before .record-at .ensures) (c .before .before .before .before .before .before .before .before .node2 .given .1) in
-    let y = got-tree _ _ _ _ _ _ _ (c .before .before .before .measure-tree .ensures) (c .before .if4 .left) in
-    let g = small _ _ _ _ _ _ _ _ _ _ (λ i. (c .before .before .before .before .before .before .before .before .before .before .before .shared-slice-known .given i) .fits) (omega (arith, h .0, n .1)) (omega (arith, h .2)) y in
-    omega (arith, g .lines, g .within, h .0, h .1, n .1)
+measure-tree-add-t19 t c = omega (arith, measure-tree-bound t c .0)
 
 measure-tree-add-t20 : (t : ℕ) → measure-tree-lts.Need-add-t20 (measure-tree-calls t) (measure-tree-at t) measure-tree.Post
-measure-tree-add-t20 t c =
-    let s = c .before .before .before .before .before .before .before .before .before .before .before .before .before in
-    let h = s .pre .1 in
-    let z = pos-of-ne-zero (c .before .before .before .before .before .before .before .if2 .left) in
-    let n = binding-in _ _ _ _ (c .before .before .before .before .before .before .before .before .before .before .before .record-at .ensures) (c .before .before .before .before .before .before .before .before .before .node2 .given .1) in
-    let y = got-tree _ _ _ _ _ _ _ (c .before .before .before .before .measure-tree .ensures) (c .before .before .if4 .left) in
-    let g = small _ _ _ _ _ _ _ _ _ _ (λ i. (c .before .before .before .before .before .before .before .before .before .before .before .before .shared-slice-known .given i) .fits) (omega (arith, h .0, n .1)) (omega (arith, h .2)) y in
-    omega (arith, g .lays, g .within, h .0, h .1, n .1)
+measure-tree-add-t20 t c = omega (arith, measure-tree-bound t (c .before) .1)
 
 measure-tree-returns-4 : (t : ℕ) → measure-tree-lts.Need-returns-4 (measure-tree-calls t) (measure-tree-at t) measure-tree.Post
 measure-tree-returns-4 t c = binding-good _ _ _ _ (c .before .before .before .before .before .before .before .before .before .before .before .record-at .ensures) _ _ _ _ _ _ _ (c .before .before .before .before .before .before .before .before .before .node2 .given .1) (c .before .before .before .before .before .before .before .if2 .left) (c .before .before .before .before .before .before .is-name2 .ensures) (c .before .before .before .before .before .if3 .taken) (c .before .before .before .before .measure-tree .ensures) (c .before .before .if4 .left) (refl, refl, refl, refl, refl)

@@ -1,9 +1,7 @@
 -- `printer::measure::measure`: the trees done and what they take, before those that are left. The measure is the bytes left.
-use mathlib.Core.Path.{_≡_, refl}
 use mathlib.Core.Logic.{⊎-elim}
-use Prim.Native.Nat.{_-_}
+use Prim.Native.Nat.{_+_, _-_, _<_}
 use native.Mathlib.Omega.{arith}
-use borrow.Author.Needs.{needs}
 use lib.Dec.{lit≤}
 use lib.ListN.{length}
 use Rattle.printer.proofs.Walks.{Paged, too-long, paged-begin, lead-some, lead-none, paged-tree, paged-stop, paged-end}
@@ -18,6 +16,19 @@ Inv-loop t width p₀ w₀ p w = Paged t width p w
 
 abbrev μ-loop : tie.MeasureT-loop
 μ-loop t width p₀ w₀ p w = length t - p
+
+-- past the tree that was measured
+on : (c : tie.After-row-known Inv-loop μ-loop)
+    → (c .before .before .before .before .before .before .before .loop .p < c .before .before .before .before .before .measure-tree .result .place)
+    × Paged (c .before .before .before .before .before .before .before .before .before .before .args .t .now) (c .before .before .before .before .before .before .before .before .before .before .args .width) (c .before .before .before .before .before .measure-tree .result .place) (c .before .before .if3 .w + c .before .before .before .before .before .measure-tree .result .len + 1)
+on c =
+    let j = c .before .before in
+    let b = j .before .before .before in
+    let l = b .before .before .loop in
+    let e =
+    ⊎-elim (λ v. lead-some (l .p) (l .w) (j .if3 .w) (v .0 .taken) (v .1)) (λ v. lead-none (l .p) (l .w) (j .if3 .w) (v .0 .left) (v .1)) (j .if3 .came) in
+    paged-tree _ _ (l .p) (l .w) (l .inv) (j .if3 .w) _ (λ i. (b .before .before .before .before .shared-slice-known .given i) .fits) (b .before .loop-test .taken)
+    (b .measure-tree .ensures) (j .before .if2 .left) e
 
 returns : tie.Need-returns Inv-loop μ-loop
 returns c = too-long _ _ (c .if1 .taken)
@@ -36,50 +47,16 @@ add-w : tie.Need-add-w Inv-loop μ-loop
 add-w c = let g = c .before .before .before .before .before .loop .inv in omega (arith, g .size, g .within, g .limit)
 
 add-w-2 : tie.Need-add-w-2 Inv-loop μ-loop
-add-w-2 c =
-    let j = c .before .before in
-    let b = j .before .before .before in
-    let l = b .before .before .loop in
-    let e = ⊎-elim (λ v. lead-some (l .p) (l .w) (j .if3 .w) (v .0 .taken) (v .1)) (λ v. lead-none (l .p) (l .w) (j .if3 .w) (v .0 .left) (v .1)) (j .if3 .came) in
-    let g =
-    paged-tree _ _ (l .p) (l .w) (l .inv) (j .if3 .w) _ (λ i. (b .before .before .before .before .shared-slice-known .given i) .fits) (b .before .loop-test .taken)
-    (b .measure-tree .ensures) (j .before .if2 .left) e in
-    let x = g .1 in
-    omega (arith, x .size, x .within, x .limit)
+add-w-2 c = let g = on c .1 in omega (arith, g .size, g .within, g .limit)
 
 add-w-3 : tie.Need-add-w-3 Inv-loop μ-loop
-add-w-3 c =
-    let j = c .before .before in
-    let b = j .before .before .before in
-    let l = b .before .before .loop in
-    let e = ⊎-elim (λ v. lead-some (l .p) (l .w) (j .if3 .w) (v .0 .taken) (v .1)) (λ v. lead-none (l .p) (l .w) (j .if3 .w) (v .0 .left) (v .1)) (j .if3 .came) in
-    let g =
-    paged-tree _ _ (l .p) (l .w) (l .inv) (j .if3 .w) _ (λ i. (b .before .before .before .before .shared-slice-known .given i) .fits) (b .before .loop-test .taken)
-    (b .measure-tree .ensures) (j .before .if2 .left) e in
-    let x = g .1 in
-    omega (arith, x .size, x .within, x .limit)
+add-w-3 c = let g = on c .1 in omega (arith, g .size, g .within, g .limit)
 
 loop-less : tie.Need-loop-less Inv-loop μ-loop
-loop-less c =
-    let j = c .before .before in
-    let b = j .before .before .before in
-    let l = b .before .before .loop in
-    let e = ⊎-elim (λ v. lead-some (l .p) (l .w) (j .if3 .w) (v .0 .taken) (v .1)) (λ v. lead-none (l .p) (l .w) (j .if3 .w) (v .0 .left) (v .1)) (j .if3 .came) in
-    let g =
-    paged-tree _ _ (l .p) (l .w) (l .inv) (j .if3 .w) _ (λ i. (b .before .before .before .before .shared-slice-known .given i) .fits) (b .before .loop-test .taken)
-    (b .measure-tree .ensures) (j .before .if2 .left) e in
-    omega (arith, g .0, b .before .loop-test .taken)
+loop-less c = omega (arith, on c .0, c .before .before .before .before .before .before .loop-test .taken)
 
 loop-again : tie.Need-loop-again Inv-loop μ-loop
-loop-again c =
-    let j = c .before .before in
-    let b = j .before .before .before in
-    let l = b .before .before .loop in
-    let e = ⊎-elim (λ v. lead-some (l .p) (l .w) (j .if3 .w) (v .0 .taken) (v .1)) (λ v. lead-none (l .p) (l .w) (j .if3 .w) (v .0 .left) (v .1)) (j .if3 .came) in
-    let g =
-    paged-tree _ _ (l .p) (l .w) (l .inv) (j .if3 .w) _ (λ i. (b .before .before .before .before .shared-slice-known .given i) .fits) (b .before .loop-test .taken)
-    (b .measure-tree .ensures) (j .before .if2 .left) e in
-    g .1
+loop-again c = on c .1
 
 returns-3 : tie.Need-returns-3 Inv-loop μ-loop
 returns-3 c = paged-end _ _ _ _ (c .before .loop .inv) (c .loop-test .left)
