@@ -10,3 +10,5 @@ pub mod Laying
 pub mod Flats
 pub mod Breaks
 pub mod Pages
+pub mod Sizes
+pub mod Walks

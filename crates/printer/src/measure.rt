@@ -2,14 +2,15 @@
 use refusals::Refusal;
 use table::Record;
 ghost use mathlib.Core.Path.{_≡_};
-ghost use mathlib.Core.Bool.{true};
-ghost use Prim.Native.Nat.{_+_, _≤_, _<_};
+ghost use mathlib.Core.Bool.{true, false};
+ghost use Prim.Native.Nat.{ℕ, _+_, _≤_, _<_};
 ghost use lib.ListN.{length};
-ghost use Rattle.refusals.specs.Numbers.{tableLimit, depthLimit};
+ghost use Rattle.refusals.specs.Numbers.{tableLimit, depthLimit, tooDeep};
 ghost use Rattle.table.specs.Trees.{isSymbol, list};
+ghost use Rattle.table.specs.declared.Record.the-variants.{Integer};
 ghost use Rattle.table.specs.Records.{payload};
-ghost use Rattle.table.specs.Decoding.{treeAt, itemsAt, andThen, found, tableOf};
-ghost use Rattle.printer.specs.Measuring.{Sized, Summed};
+ghost use Rattle.table.specs.Decoding.{treeAt, itemsAt, andThen, found, refused, ofRecord, tableOf};
+ghost use Rattle.printer.specs.Measuring.{Named, Sized, Summed, itemIndent, itemColumn};
 
 pub struct Size {
     // A refusal's number, or 0.
@@ -64,7 +65,9 @@ fn is_name(t: &[u8], at: usize, len: usize) -> bool
 }
 
 // The place past the good symbol at `at`, or `at`.
-fn past_name(t: &[u8], at: usize) -> usize {
+fn past_name(t: &[u8], at: usize) -> usize
+    ensures { λ r. ⌜ Named (now (t .entry)) at r ⌝ }
+{
     let node = table::record_at(t, at);
     match node {
         Record::Symbol(len) => {
@@ -81,7 +84,10 @@ fn past_name(t: &[u8], at: usize) -> usize {
 }
 
 // Only the lowest integer is refused.
-fn measure_integer(t: &[u8], at: usize) -> Size {
+fn measure_integer(t: &[u8], at: usize) -> Size
+    requires { ⌜ at + 22 ≤ length (now t) ⌝ }
+    ensures { λ r. ⌜ ((w i c : ℕ) → Sized (ofRecord (now (t .entry)) true at false (refused tooDeep) Integer) w i c r) ⌝ }
+{
     let w = wide::wide_at(t, at + 6);
     if (w.hi == i64::MIN) & (w.lo == 0) {
         return stopped(refusals::LOWEST, at);
@@ -90,14 +96,20 @@ fn measure_integer(t: &[u8], at: usize) -> Size {
 }
 
 // The indent and the column of an item of a list that is wrapped: only the first stays on its line.
-fn inner(first: bool, indent: usize) -> usize {
+fn inner(first: bool, indent: usize) -> usize
+    requires { ⌜ indent ≤ depthLimit ⌝ }
+    ensures { λ r. ⌜ r ≡ itemIndent first indent ⌝ }
+{
     if first {
         return indent;
     }
     indent + 1
 }
 
-fn begins(first: bool, column: usize) -> usize {
+fn begins(first: bool, column: usize) -> usize
+    requires { ⌜ column ≤ tableLimit ⌝ }
+    ensures { λ r. ⌜ r ≡ itemColumn first column ⌝ }
+{
     if first {
         return column + 1;
     }
