@@ -67,7 +67,7 @@ mutual
       rw (length-append (bytes (gap first m i c)) (bytes (lay x m w j c1) ++ bytes (items xs false m w i c2)), length-append (bytes (lay x m w j c1)) (bytes (items xs false m w i c2)))
       (omega (arith, gap-col first m i c, lay-col x m w j c1, items-col xs false m w i c2))
 
-  lay-len : (x : Tree) (d : ℕ) (m : Wrapping) (w i c : ℕ) → Good x d → i + d ≤ 64 → length (bytes (lay x m w i c)) + 300 ≤ 128 * length (records x)
+  pub lay-len : (x : Tree) (d : ℕ) (m : Wrapping) (w i c : ℕ) → Good x d → i + d ≤ 64 → length (bytes (lay x m w i c)) + 300 ≤ 128 * length (records x)
   lay-len (symbol n) d m w i c g h = rw (length-record 1 n) (omega arith)
   lay-len (integer z) d m w i c g h = rw (length-record 2 (wideBytes z), wide-length z) (omega (arith, decimal-top z))
   lay-len (binding n x) d m w i c g h =

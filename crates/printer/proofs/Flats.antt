@@ -107,11 +107,6 @@ Flat y q len b b′ = (q ≡ nextOf y) × (len ≡ length (line (treeOf y))) × 
 abbrev pub Run : Found Tree → ℕ → ℕ → List ℕ → List ℕ → Type 0
 Run y q len b b′ = (q ≡ nextOf y) × ((w i c : ℕ) → Lined (treeOf y) w i c len b b′)
 
--- a list that fits is laid as on a single line
-alike : (xs : Trees) (w i c : ℕ) → fits w c (list xs) ≡ true → lay (list xs) Wrap w i c ≡ lay (list xs) SingleLine w i c
-unfolding lay
-alike xs w i c e = rw e refl
-
 module _ (y : Found Tree) (q len : ℕ) (b b′ : List ℕ) where
   run : Flat y q len b b′ → Run y q len b b′
   run h = (h .0, λ w i c. rw (line-is (treeOf y) w i c) (h .1, h .2))
@@ -120,16 +115,6 @@ module _ (y : Found Tree) (q len : ℕ) (b b′ : List ℕ) where
   run-flat h =
       let g = subst (λ (o : List ℕ). (len ≡ length o) × Filled o b b′) (line-is (treeOf y) 0 0 0) (h .1 0 0 0) in
       (h .0, g .0, g .1)
-
-  -- for `print_wrapped`: a list that fits, as `cost::fits` answers it
-  pub flat-laid : (xs : Trees) (w i c : ℕ) → treeOf y ≡ list xs → (fit : Bool) → fit ≡ fits w c (treeOf y) → fit ≡ true → Run y q len b b′
-      → Laid y Wrap w i c q len (c + len) × Filled (bytes (lay (treeOf y) Wrap w i c)) b b′
-  flat-laid xs w i c el fit e e′ h =
-      let one : lay (treeOf y) Wrap w i c ≡ lay (treeOf y) SingleLine w i c =
-      subst⁻¹ (λ (x : Tree). fits w c x ≡ true → lay x Wrap w i c ≡ lay x SingleLine w i c) el (alike xs w i c) (sym e ∙ e′) in
-      let g = h .1 w i c in
-      let s = single (treeOf y) w i c in
-      rw one ((h .0, g .0, omega (arith, g .0, s .0, s .1)), g .1)
 
 -- ---- atoms
 

@@ -17,7 +17,7 @@ use Rattle.printer.specs.Layout.{Wrapping, Wrap, SingleLine, bytes, colu
 use Rattle.printer.specs.Measuring.{alone, empties, emptiesOf, itemIndent, itemColumn}
 use Rattle.printer.specs.Code.{around}
 use Rattle.printer.proofs.Singles.{span, spans, single, named-size}
-use Rattle.printer.proofs.Bounds.{inner-le}
+use Rattle.printer.proofs.Bounds.{lay-len}
 
 around-is : (xs : Trees) → around (count xs) ≡ count xs + 1 + alone xs
 around-is none = refl
@@ -84,40 +84,6 @@ unfolding lay
 line-size xs w i c l = rw (le-leb (c + cost (list xs)) w l) (single (list xs) w i c .0 ∙ span-is (list xs))
 
 -- ---- bounds by the records
-
-gap-len : (first : Bool) (m : Wrapping) (i c : ℕ) → i + 1 ≤ 64 → length (bytes (gap first m i c)) ≤ 257
-gap-len true m i c h = lit≤ tt
-gap-len false SingleLine i c h = lit≤ tt
-gap-len false Wrap i c h = simp length-replicate (omega arith)
-
-back-len : (first : Bool) (m : Wrapping) (i c : ℕ) → i ≤ 64 → length (bytes (back first m i c)) ≤ 257
-back-len true m i c h = lit≤ tt
-back-len false SingleLine i c h = lit≤ tt
-back-len false Wrap i c h = simp length-replicate (omega arith)
-
-mutual
-  unfolding lay records Good
-
-  pub lay-len : (x : Tree) (d : ℕ) (m : Wrapping) (w i c : ℕ) → Good x d → i + d ≤ 64 → length (bytes (lay x m w i c)) + 300 ≤ 128 * length (records x)
-  lay-len (symbol n) d m w i c g h = rw (length-record 1 n) (omega arith)
-  lay-len (integer z) d m w i c g h = rw (length-record 2 (wideBytes z), wide-length z) (omega (arith, decimal-top z))
-  lay-len (binding n x) d m w i c g h =
-      let k : ℕ = c + length (named n) in
-      rw (length-append (named n) (bytes (lay x m w i k)), length-append (record-of 3 n) (records x), length-record 3 n)
-      (omega (arith, named-size n, lay-len x (d - 1) m w i k (g .3) (omega (arith, g .0))))
-  lay-len (list xs) d m w i c g h =
-      let s : Wrapping = wrapped m w c (list xs) in
-      rw (length-append (record-of 4 (le 4 (count xs))) (recordsOf xs), length-record 4 (le 4 (count xs)))
-      (omega (arith, items-len xs (d - 1) true s w i (c + 1) (g .2) (omega (arith, g .0))))
-
-  items-len : (xs : Trees) (d : ℕ) (first : Bool) (m : Wrapping) (w i c : ℕ) → Goods xs d → i + 1 + d ≤ 64 → length (bytes (items xs first m w i c)) ≤ 128 * length (recordsOf xs) + 258
-  items-len none d first m w i c g h = rw (length-append (bytes (back first m i c)) (41 ∷ [])) (omega (arith, back-len first m i c (omega arith)))
-  items-len (more x xs) d first m w i c g h =
-      let c1 : ℕ = column (gap first m i c) in
-      let j : ℕ = inner first m i in
-      let c2 : ℕ = column (lay x m w j c1) in
-      rw (length-append (bytes (gap first m i c)) (bytes (lay x m w j c1) ++ bytes (items xs false m w i c2)), length-append (bytes (lay x m w j c1)) (bytes (items xs false m w i c2)), length-append (records x) (recordsOf xs))
-      (omega (arith, gap-len first m i c (omega arith), lay-len x d m w j c1 (g .0) (omega (arith, inner-le first m i)), items-len xs d false m w i c2 (g .1) h))
 
 pub line-len : (x : Tree) (d : ℕ) → Good x d → d ≤ 64 → cost x + empties x + 300 ≤ 128 * length (records x)
 line-len x d g h = omega (arith, lay-len x d SingleLine 0 0 0 g (omega arith), single x 0 0 0 .0, span-is x)

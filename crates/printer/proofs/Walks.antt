@@ -27,8 +27,8 @@ use Rattle.printer.specs.Measuring.{alone, empties, emptiesOf, Named, Si
 use Rattle.printer.specs.declared.measure.Size.{Size}
 use Rattle.printer.specs.declared.measure.Measured.the-variants.{Bytes as Text, Refused}
 use Rattle.printer.proofs.Singles.{named-size}
-use Rattle.printer.proofs.Bounds.{inner-le}
-use Rattle.printer.proofs.Sizes.{sums, wide-size, line-size, lay-len, line-len}
+use Rattle.printer.proofs.Bounds.{inner-le, lay-len}
+use Rattle.printer.proofs.Sizes.{sums, wide-size, line-size, line-len}
 
 -- ---- a name
 
