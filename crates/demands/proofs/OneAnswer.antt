@@ -232,6 +232,7 @@ fed-lent d a b m n h k e f =
 pub record OneAnswer : Type 0 where
   pub lists·byte-at : (s : List ℕ) (i : ℕ) → One ℕ (λ r. r ≡ getD s i 0)
   pub lists·less : (a b : ℕ) → One ℕ (λ r. r ≡ a - b)
+  pub lists·put : (s out : List ℕ) → Both ℕ (List ℕ) (λ r exit. (r ≡ length s) × (exit ≡ fitted s out))
   pub classes·class-of : (b : ℕ) → One Class (λ r. r ≡ classOf b)
   pub classes·is-blank : (b : ℕ) → One Bool (λ r. r ≡ blank (classOf b))
   pub classes·is-line-end : (b : ℕ) → One Bool (λ r. r ≡ lineEnd (classOf b))
@@ -273,6 +274,7 @@ pub one-answer : OneAnswer
 one-answer = record {
   lists·byte-at = λ s i. one _;
   lists·less = λ a b. one _;
+  lists·put = λ s out. both _ _;
   classes·class-of = λ b. one _;
   classes·is-blank = λ b. one _;
   classes·is-line-end = λ b. one _;

@@ -60,6 +60,13 @@ less-wraps e = omega arith
 less-distance : Not (1 ≡ 1 - 2)
 less-distance e = omega arith
 
+-- lists::put: a room that is too short takes what it can; the bytes after the text go
+put-cut : Not (1 ∷ [] ≡ fitted (1 ∷ 2 ∷ []) (7 ∷ []))
+put-cut e = let z = ap (λ (o : List ℕ). getD o 0 0) e in omega arith
+
+put-rest : Not (1 ∷ 0 ∷ [] ≡ fitted (1 ∷ []) (7 ∷ 8 ∷ []))
+put-rest e = let z = ap (λ (o : List ℕ). getD o 1 0) e in omega arith
+
 -- classes::class_of: form feed as a blank; vertical tab as a blank
 class-form-feed : Not (Space ≡ classOf 12)
 unfolding classOf

@@ -1,7 +1,7 @@
 -- A call seen from inside its piece: a law for each outcome of a turn. Assumes nothing.
 use Prim.Native.Nat.{ℕ, suc, _+_, _-_, _≤_, _<_}
 use mathlib.Core.Path.{_≡_, refl, sym, ap, _∙_}
-use mathlib.Core.List.{List, [], _∷_}
+use mathlib.Core.List.{List}
 use mathlib.Core.Bool.{cond, true, false}
 use native.Mathlib.Omega.{arith}
 use native.Mathlib.Nat.{add-zero, zero-add}
@@ -12,11 +12,11 @@ use Rattle.lists.proofs.Places.{from}
 use Rattle.refusals.specs.Numbers.{sourceLimit, tooLong}
 use Rattle.classes.specs.declared.Class.{Class}
 use Rattle.classes.specs.Classes.{semicolon, rparen}
-use Rattle.lexer.specs.Tokens.{Token, Answer, end, is, refused, tokenOf, answerOf}
+use Rattle.lexer.specs.Tokens.{Token, Answer, is, tokenOf, answerOf}
 use Rattle.lexer.specs.declared.Lexed.{Lexed}
 use Rattle.lexer.specs.declared.Lexed.the-variants as lexed
 use Rattle.feeder.specs.Machine.{Mode, Blank, Block, Half, Clear, Semi, Paren, half, out, deeper, inBlock, Turn, Go, Stay, Take, Halt, ends, turn, step}
-use Rattle.feeder.specs.Feeding.{Fed, fed, more, ready, refuse, live, dead, plus, stepped, feedFrom}
+use Rattle.feeder.specs.Feeding.{Fed, fed, more, ready, refuse, live, dead, stepped, feedFrom}
 use Rattle.feeder.specs.Code.{ahead, call, moved, Further, endedOf, insideOf}
 use Rattle.feeder.specs.declared.comments.Inside.{Inside}
 use Rattle.feeder.specs.declared.comments.Inside.the-variants.{Out, In}

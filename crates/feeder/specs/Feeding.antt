@@ -2,7 +2,6 @@
 use Prim.Native.Nat.{ℕ, suc}
 use mathlib.Core.List.{List, [], _∷_}
 use Rattle.refusals.specs.Numbers.{fedAfterClose}
-use Rattle.refusals.specs.declared.Refusal.{Refusal}
 use Rattle.lexer.specs.Tokens.{Token, Answer, end, is, refused, tokenOf}
 use Rattle.feeder.specs.Machine.{Mode, Blank, Turn, Go, Stay, Take, Halt, step, closing}
 use Rattle.feeder.specs.declared.Phase.{Phase}
@@ -10,7 +9,6 @@ use Rattle.feeder.specs.declared.Phase.the-variants.{Live, Closed, Refus
 use Rattle.feeder.specs.declared.State.{State}
 use Rattle.feeder.specs.declared.Answer.{Answer as CodeAnswer}
 use Rattle.feeder.specs.declared.Answer.the-variants as code
-use Rattle.feeder.specs.declared.Out.{Out}
 use Rattle.feeder.specs.declared.Fed.{Fed as CodeFed}
 
 -- a call answers a token, "more", the end, or a refusal's number and place

@@ -1,5 +1,5 @@
 -- The machine that is fed byte by byte (document 01, 'Feeding in pieces'): what one byte does in each mode.
-use Prim.Native.Nat.{ℕ, zero, suc, _+_, _-_}
+use Prim.Native.Nat.{ℕ, _+_, _-_}
 use mathlib.Core.Bool.{Bool, true, false, cond}
 use lib.Dec.{eqb, leb, ltb}
 use Rattle.refusals.specs.Numbers.{sourceLimit, tooLong, formFeed, openComment, noDigits}

@@ -1,11 +1,11 @@
 -- What a lent buffer holds while its front is written: byte by byte, by lending its rest on, by a run of equal bytes. Assumes nothing.
-use mathlib.Core.Path.{_≡_, refl, ap, sym, subst, _∙_}
+use mathlib.Core.Path.{_≡_, refl, ap, _∙_}
 use mathlib.Core.List.{List, [], _∷_, _++_, append-assoc, append-nil}
-use Prim.Native.Nat.{ℕ, suc, _+_, _-_, _≤_, _<_}
+use Prim.Native.Nat.{ℕ, _+_, _-_, _≤_, _<_}
 use native.Mathlib.Omega.{arith}
 use native.Mathlib.Numerals.{add-one}
 use lib.ListN.{length, take, drop, set, length-append, length-drop, drop-of-length-le, replicate, length-replicate, replicate-append-replicate}
-use lib.Seq.{drop-set-lt, drop-cons, set-at, take-at, drop-at, drop-drop, take-all}
+use lib.Seq.{drop-cons, set-at, take-at, drop-at, drop-drop, take-all}
 use borrow.Rule.Slice.PartMut.{putMid}
 use Rattle.lists.specs.Over.{over}
 

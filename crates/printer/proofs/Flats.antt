@@ -26,8 +26,8 @@ use Rattle.table.proofs.Parsing.{within-is}
 use Rattle.table.proofs.Heads.{length-record}
 use Rattle.table.proofs.Checking.{part}
 use Rattle.table.proofs.Decoded.{Holds, tree-holds}
-use Rattle.printer.specs.Layout.{Wrap, SingleLine, bytes, column, named, fits, lay, items}
-use Rattle.printer.specs.Code.{Right, treeOf, treesOf, nextOf, named-len, Filled, Laid, Lined}
+use Rattle.printer.specs.Layout.{SingleLine, bytes, column, named, lay, items}
+use Rattle.printer.specs.Code.{Right, treeOf, treesOf, nextOf, named-len, Filled, Lined}
 use Rattle.printer.proofs.Founds.{Made, bad-found, symbol-found, found-end, first, none-left}
 use Rattle.printer.proofs.Rooms.{wrote-whole, wrote-rest}
 use Rattle.printer.proofs.Singles.{single, named-size}

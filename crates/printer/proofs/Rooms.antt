@@ -5,7 +5,6 @@ use Prim.Native.Nat.{ℕ, _+_, _-_, _≤_, _<_}
 use native.Mathlib.Omega.{arith}
 use native.Mathlib.Numerals.{add-one}
 use lib.ListN.{length, take, drop, set, replicate, length-replicate}
-use lib.Seq.{take-length}
 use borrow.Rule.Slice.PartMut.{putMid}
 use Rattle.lists.specs.Over.{over}
 use Rattle.lists.proofs.Writing.{Wrote, wrote-lent, wrote-length, wrote-set, part-length}
@@ -24,10 +23,6 @@ wrote-rest {o} {b₀} {b} {w} h o′ ys n r er en l =
     let there : Filled o′ (take (length b - w) (drop w b)) ys → Wrote (o ++ o′) b₀ (putMid w (length b - w) b ys) (w + n) =
     λ f. wrote-lent h o′ ys n (sym en) l (f (rw (part-length w b) (omega arith))) in
     subst⁻¹ (λ (j : ℕ). Filled o′ (take (length b - j) (drop j b)) ys → Wrote (o ++ o′) b₀ (putMid j (length b - j) b ys) (w + n)) e there
-
--- a copy of all of s
-pub copied : (s b b′ : List ℕ) (n : ℕ) → n ≡ length s → b′ ≡ take n s ++ drop n b → b′ ≡ over s b
-copied s b b′ n e h = h ∙ rw (e, take-length s) refl
 
 -- spaces, of which the first is then a line break
 pub broken : (b b′ : List ℕ) (k : ℕ) → b′ ≡ over (replicate (k + 1) 32) b → set b′ 0 10 ≡ over (10 ∷ replicate k 32) b

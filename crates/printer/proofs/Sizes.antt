@@ -6,17 +6,12 @@ use Prim.Native.Nat.{ℕ, _+_, _*_, _-_, _≤_, _<_}
 use native.Mathlib.Omega.{arith}
 use native.Mathlib.Nat.{add-mul}
 use lib.ListN.{length, replicate, length-append, length-replicate}
-use lib.Dec.{lit≤}
 use borrow.Author.Tests.{le-leb, lt-leb}
-use Rattle.wide.specs.Bytes.{le, wideBytes}
-use Rattle.wide.proofs.Numbers.{wide-length}
-use Rattle.wide.proofs.Decimals.{decimal-top}
-use Rattle.table.specs.Trees.{Tree, Trees, symbol, integer, binding, list, none, more, count, record-of, records, recordsOf, Good, Goods}
-use Rattle.table.proofs.Heads.{length-record}
-use Rattle.printer.specs.Layout.{Wrapping, Wrap, SingleLine, bytes, column, named, gap, inner, back, wrapped, lay, items, cost, costs}
+use Rattle.table.specs.Trees.{Tree, Trees, symbol, integer, binding, list, none, more, count, records, Good}
+use Rattle.printer.specs.Layout.{Wrap, SingleLine, bytes, column, wrapped, lay, items, cost, costs}
 use Rattle.printer.specs.Measuring.{alone, empties, emptiesOf, itemIndent, itemColumn}
 use Rattle.printer.specs.Code.{around}
-use Rattle.printer.proofs.Singles.{span, spans, single, named-size}
+use Rattle.printer.proofs.Singles.{span, spans, single}
 use Rattle.printer.proofs.Bounds.{lay-len}
 
 around-is : (xs : Trees) → around (count xs) ≡ count xs + 1 + alone xs

@@ -1,14 +1,14 @@
 -- What the code's own functions answer: a checked table's trees, the walk of `fits`, and a room that may be too short.
 use Prim.Native.Nat.{ℕ, zero, suc, _+_, _-_, _≤_, _<_}
 use mathlib.Core.Path.{_≡_}
-use mathlib.Core.Bool.{Bool, true, false, cond}
+use mathlib.Core.Bool.{Bool, true, cond}
 use mathlib.Core.List.{List, [], _∷_, _++_}
 use lib.ListN.{length}
 use Rattle.refusals.specs.Numbers.{tableLimit, depthLimit}
 use Rattle.lists.specs.Over.{over}
 use Rattle.wide.specs.Bytes.{integerAt}
 use Rattle.wide.specs.Decimal.{decimalOf}
-use Rattle.table.specs.Trees.{Tree, Trees, symbol, list, none}
+use Rattle.table.specs.Trees.{Tree, Trees, symbol, none}
 use Rattle.table.specs.declared.Record.{Record}
 use Rattle.table.specs.declared.Record.the-variants.{Symbol, Integer, Binding, List as ListOf, Bad}
 use Rattle.table.specs.Decoding.{Found, found, refused, treeAt}

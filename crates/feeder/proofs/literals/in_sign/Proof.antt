@@ -1,5 +1,5 @@
 -- `feeder::literals::in_sign`: the first digit, or no digits.
-use mathlib.Core.Path.{_≡_, refl, sym, _∙_}
+use mathlib.Core.Path.{refl, sym, _∙_}
 use native.Mathlib.Omega.{arith}
 use denote.Ref.{now}
 use Rattle.feeder.specs.Machine.{Sign, turn}
