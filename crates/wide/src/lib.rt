@@ -1,7 +1,9 @@
 // Integers of 128 bits: two unsigned limbs while digits are read, an i64 high limb and a u64 low limb once they have a sign; decimal text; 16 bytes.
+mod digits;
+
 ghost use mathlib.Core.Path.{_≡_};
 ghost use Prim.Native.Nat.{_+_, _*_, _-_, _/_, _%_, _^_, _<_, _≤_};
-ghost use mir.Syntax.{w64, w128};
+ghost use mir.Syntax.{w64};
 ghost use mir.Val.{toZ, ofZ};
 ghost use lib.IntN.{pos, natAbs};
 ghost use lib.Dec.{leb};
@@ -9,7 +11,7 @@ ghost use lib.ListN.{length};
 ghost use lib.Signed.{ltZ};
 ghost use Rattle.lists.specs.Over.{over, fitted};
 ghost use Rattle.wide.specs.Value.{val, value, grown, reduced, integerOf, signedOf};
-ghost use Rattle.wide.specs.Decimal.{digitsOf, decimalOf};
+ghost use Rattle.wide.specs.Decimal.{decimalOf};
 ghost use Rattle.wide.specs.Bytes.{le, numberAt, numberIn, wideBytes, wideIn};
 
 pub struct Limbs {
@@ -154,96 +156,15 @@ fn magnitude(w: Wide) -> Limbs
     bits
 }
 
-struct Tenth {
-    hi: u64,
-    lo: u64,
-    digit: u8,
-}
-
-// A number of two limbs by ten, and its last digit: three divisions of one limb each.
-fn by_ten(hi: u64, lo: u64) -> Tenth
-    ensures { λ r. ⌜ (r .hi * 2 ^ 64 + r .lo ≡ (hi * 2 ^ 64 + lo) / 10) × (r .digit ≡ (hi * 2 ^ 64 + lo) % 10) ⌝ }
-{
-    let a = hi % 10 * 0x1_0000_0000 + lo / 0x1_0000_0000;
-    let b = a % 10 * 0x1_0000_0000 + lo % 0x1_0000_0000;
-    Tenth {
-        hi: hi / 10,
-        lo: a / 10 * 0x1_0000_0000 + b / 10,
-        digit: (b % 10) as u8,
-    }
-}
-
-// How many digits x has in decimal.
-fn count_low(x: u64) -> usize
-    ensures { λ r. ⌜ r ≡ length (digitsOf x) ⌝ }
-{
-    let mut rest = x;
-    let mut k = 1;
-    while rest >= 10 {
-        rest /= 10;
-        k += 1;
-    }
-    k
-}
-
-// How many digits n has in decimal: those above the low limb are split off first.
-fn count(n: Limbs) -> usize
-    ensures { λ r. ⌜ r ≡ length (digitsOf (val n)) ⌝ }
-{
-    let mut hi = n.hi;
-    let mut lo = n.lo;
-    let mut k = 0;
-    while hi > 0 {
-        let t = by_ten(hi, lo);
-        hi = t.hi;
-        lo = t.lo;
-        k += 1;
-    }
-    k + count_low(lo)
-}
-
 // How many bytes w takes in decimal.
 pub fn decimal_len(w: Wide) -> usize
     ensures { λ r. ⌜ r ≡ length (decimalOf (value w)) ⌝ }
 {
-    let k = count(magnitude(w));
+    let k = digits::count(magnitude(w));
     if negative(w) {
         return k + 1;
     }
     k
-}
-
-// The k digits of x, from the last to the first, at the front of out.
-fn put_low(x: u64, k: usize, out: &mut [u8])
-    requires { ⌜ (k ≡ length (digitsOf x)) × (k ≤ length (now out)) ⌝ }
-    ensures { λ _. ⌜ now (out .exit) ≡ over (digitsOf x) (now (out .entry)) ⌝ }
-{
-    let mut at = k;
-    let mut rest = x;
-    while rest >= 10 {
-        at -= 1;
-        out[at] = 48 + (rest % 10) as u8;
-        rest /= 10;
-    }
-    out[0] = 48 + rest as u8;
-}
-
-// The k digits of n at the front of out: those above the low limb are split off first.
-fn put_digits(n: Limbs, k: usize, out: &mut [u8])
-    requires { ⌜ (k ≡ length (digitsOf (val n))) × (k ≤ length (now out)) ⌝ }
-    ensures { λ _. ⌜ now (out .exit) ≡ over (digitsOf (val n)) (now (out .entry)) ⌝ }
-{
-    let mut at = k;
-    let mut hi = n.hi;
-    let mut lo = n.lo;
-    while hi > 0 {
-        let t = by_ten(hi, lo);
-        at -= 1;
-        out[at] = 48 + t.digit;
-        hi = t.hi;
-        lo = t.lo;
-    }
-    put_low(lo, at, out);
 }
 
 // Puts w in decimal at the front of out and answers its length; a room that is too short stays as it was.
@@ -251,19 +172,19 @@ pub fn put_decimal(w: Wide, out: &mut [u8]) -> usize
     ensures { λ r. ⌜ (r ≡ length (decimalOf (value w))) × (now (out .exit) ≡ fitted (decimalOf (value w)) (now (out .entry))) ⌝ }
 {
     let n = magnitude(w);
-    let k = count(n);
+    let k = digits::count(n);
     if negative(w) {
         if out.len() <= k {
             return k + 1;
         }
         out[0] = 45;
-        put_digits(n, k, &mut out[1..]);
+        digits::put_digits(n, k, &mut out[1..]);
         return k + 1;
     }
     if out.len() < k {
         return k;
     }
-    put_digits(n, k, out);
+    digits::put_digits(n, k, out);
     k
 }
 

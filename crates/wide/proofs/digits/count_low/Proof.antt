@@ -1,4 +1,4 @@
--- `wide::count_low`: the digits counted and those of what is left are those of x. The measure is what is left.
+-- `wide::digits::count_low`: the digits counted and those of what is left are those of x. The measure is what is left.
 use mathlib.Core.Path.{refl}
 use Prim.Native.Nat.{_+_}
 use native.Mathlib.Omega.{arith}
@@ -6,8 +6,8 @@ use lib.ListN.{length}
 use Rattle.wide.specs.Decimal.{digitsOf}
 use Rattle.wide.proofs.Decimals.{text-top}
 use Rattle.wide.proofs.Spelling.{Counted, low-lt, count-more, count-small, count-one}
-use Rattle.wide.proofs.count_low.Statement.{statement}
-use Rattle.wide.proofs.count_low.Tie as tie
+use Rattle.wide.proofs.digits.count_low.Statement.{statement}
+use Rattle.wide.proofs.digits.count_low.Tie as tie
 
 abbrev Inv-loop : tie.InvT-loop
 Inv-loop x rest₀ k₀ rest k = Counted (length (digitsOf x) + 1) k rest

@@ -1,11 +1,11 @@
--- `wide::by_ten`: each step's remainder is below 10, so that no part is above 64 bits.
+-- `wide::digits::by_ten`: each step's remainder is below 10, so that no part is above 64 bits.
 use Prim.Native.Nat.{_/_, _%_, _^_}
 use native.Mathlib.Nat.{mod-lt}
 use lib.Dec.{lit<}
 use Rattle.wide.proofs.Tens.{quotient, digit, pair-fits, upper-lt}
 use borrow.Author.Needs.{needs}
-use Rattle.wide.proofs.by_ten.Statement.{statement}
-use Rattle.wide.proofs.by_ten.Tie as tie
+use Rattle.wide.proofs.digits.by_ten.Statement.{statement}
+use Rattle.wide.proofs.digits.by_ten.Tie as tie
 
 mul-a : tie.Need-mul-a
 mul-a c = search needs

@@ -1,4 +1,4 @@
--- `wide::put_low`: the digits left to put and those that stand make up the text. The measure is what is left of x.
+-- `wide::digits::put_low`: the digits left to put and those that stand make up the text. The measure is what is left of x.
 use mathlib.Core.Path.{refl}
 use native.Mathlib.Omega.{arith}
 use lib.ListN.{length, length-set}
@@ -6,8 +6,8 @@ use Rattle.lists.specs.Over.{over}
 use Rattle.wide.specs.Decimal.{digitsOf}
 use Rattle.wide.proofs.Spelling.{Fill, begin, low, step, last, low-lt}
 use borrow.Author.Needs.{needs}
-use Rattle.wide.proofs.put_low.Statement.{statement}
-use Rattle.wide.proofs.put_low.Tie as tie
+use Rattle.wide.proofs.digits.put_low.Statement.{statement}
+use Rattle.wide.proofs.digits.put_low.Tie as tie
 
 abbrev Inv-loop : tie.InvT-loop
 Inv-loop x k out₀ at₀ rest₀ out at rest = Fill (over (digitsOf x) out₀) out (length out₀) at rest

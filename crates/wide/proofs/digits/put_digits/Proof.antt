@@ -1,4 +1,4 @@
--- `wide::put_digits`: the digits left to put and those that stand make up the text; the low limb's are put by `put_low`. The measure is the number left.
+-- `wide::digits::put_digits`: the digits left to put and those that stand make up the text; the low limb's are put by `put_low`. The measure is the number left.
 use Prim.Native.Nat.{_+_, _*_, _^_}
 use native.Mathlib.Omega.{arith}
 use lib.ListN.{length}
@@ -7,8 +7,8 @@ use Rattle.wide.specs.Value.{val}
 use Rattle.wide.specs.Decimal.{digitsOf}
 use Rattle.wide.proofs.Spelling.{Fill, begin, low, step, big, both, falls, glyph-fits, room-low, rest-low}
 use borrow.Author.Needs.{needs}
-use Rattle.wide.proofs.put_digits.Statement.{statement}
-use Rattle.wide.proofs.put_digits.Tie as tie
+use Rattle.wide.proofs.digits.put_digits.Statement.{statement}
+use Rattle.wide.proofs.digits.put_digits.Tie as tie
 
 abbrev Inv-loop : tie.InvT-loop
 Inv-loop k out₀ at₀ hi₀ lo₀ out at hi lo = Fill (over (digitsOf (hi₀ * 2 ^ 64 + lo₀)) out₀) out (length out₀) at (hi * 2 ^ 64 + lo)

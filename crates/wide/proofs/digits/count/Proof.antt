@@ -1,4 +1,4 @@
--- `wide::count`: the digits counted and those of the two limbs left are those of n. The measure is the number left.
+-- `wide::digits::count`: the digits counted and those of the two limbs left are those of n. The measure is the number left.
 use mathlib.Core.Path.{_≡_, ap}
 use Prim.Native.Nat.{ℕ, _+_, _*_, _^_}
 use native.Mathlib.Omega.{arith}
@@ -8,8 +8,8 @@ use Rattle.wide.specs.Decimal.{digitsOf}
 use Rattle.wide.proofs.Decimals.{text-top}
 use Rattle.wide.proofs.Spelling.{Counted, big, both, alone, falls, count-more, count-small}
 use borrow.Author.Needs.{needs}
-use Rattle.wide.proofs.count.Statement.{statement}
-use Rattle.wide.proofs.count.Tie as tie
+use Rattle.wide.proofs.digits.count.Statement.{statement}
+use Rattle.wide.proofs.digits.count.Tie as tie
 
 abbrev Inv-loop : tie.InvT-loop
 Inv-loop hi₀ lo₀ k₀ hi lo k = Counted (length (digitsOf (hi₀ * 2 ^ 64 + lo₀))) k (hi * 2 ^ 64 + lo)
