@@ -39,7 +39,7 @@ fn put_name(t: &[u8], at: usize, len: usize, out: &mut [u8]) -> usize
     if out.len() < n + 3 {
         return n + 3;
     }
-    lists::put(&t[start..end], out);
+    bytes::copy(&t[start..end], out);
     out[n] = b' ';
     out[n + 1] = b'@';
     out[n + 2] = b' ';

@@ -1,16 +1,16 @@
 -- `printer::put_name`: a copy and three bytes, where there is room for them.
-use mathlib.Core.Path.{_≡_, sym, ap, _∙_}
+use mathlib.Core.Path.{_≡_, refl, sym, ap, _∙_}
 use mathlib.Core.List.{List}
 use Prim.Native.Nat.{ℕ, _+_, _-_}
 use native.Mathlib.Omega.{arith}
 use borrow.Author.Needs.{needs}
 use lib.ListN.{length, length-set, take, drop}
 use Rattle.lists.specs.Over.{over}
-use Rattle.lists.proofs.Blocks.{fitted-over}
 use Rattle.lists.proofs.Writing.{Wrote}
 use Rattle.table.specs.Records.{payload}
 use Rattle.table.proofs.Stands.{part-size}
 use Rattle.table.proofs.Checking.{part}
+use Rattle.lists.proofs.Blocks.{copied}
 use Rattle.printer.proofs.Rooms.{wrote-three}
 use Rattle.printer.proofs.Singles.{named-size}
 use Rattle.printer.proofs.put_name.Statement.{statement}
@@ -38,17 +38,17 @@ returns c =
     let e : a .args .len - 6 + 3 ≡ length n + 3 = ap (λ (k : ℕ). k + 3) (sym (part-size (a .args .t .now) (a .args .at + 6) (a .args .len - 6) (omega (arith, a .pre)))) in
     (e ∙ sym (named-size n), λ l. absurd (omega (arith, e, named-size n)))
 
-sub-put : tie.Need-sub-put
-sub-put c = search needs
+sub-copy : tie.Need-sub-copy
+sub-copy c = search needs
 
-part-put-start : tie.Need-part-put-start
-part-put-start c = search needs
+part-copy-start : tie.Need-part-copy-start
+part-copy-start c = search needs
 
-part-put-end : tie.Need-part-put-end
-part-put-end c = search needs
+part-copy-end : tie.Need-part-copy-end
+part-copy-end c = search needs
 
-put-requires : tie.Need-put-requires
-put-requires c κs = search needs
+copy-requires : tie.Need-copy-requires
+copy-requires c κs = search needs
 
 slice-write-out : tie.Need-slice-write-out
 slice-write-out c = search needs
@@ -57,13 +57,13 @@ add-out : tie.Need-add-out
 add-out c = search needs
 
 slice-write-out-2 : tie.Need-slice-write-out-2
-slice-write-out-2 c = simp length-set (omega (arith, c .before .before .put .kept))
+slice-write-out-2 c = simp length-set (omega (arith, c .before .before .copy .kept))
 
 add-out-2 : tie.Need-add-out-2
 add-out-2 c = search needs
 
 slice-write-out-3 : tie.Need-slice-write-out-3
-slice-write-out-3 c = simp length-set (omega (arith, c .before .before .put .kept))
+slice-write-out-3 c = simp length-set (omega (arith, c .before .before .copy .kept))
 
 add-result-2 : tie.Need-add-result-2
 add-result-2 c = search needs
@@ -79,16 +79,16 @@ returns-2 c =
     let b : List ℕ = a .args .out .now in
     let k : length n ≡ a .args .len - 6 = part-size t (a .args .at + 6) (a .args .len - 6) (omega (arith, a .pre)) in
     let s = part t (a .args .at) (a .args .len) in
-    let e = c .before .before .put .ensures .1 in
+    let e = c .before .before .copy .ensures .1 in
     let w : Wrote n b _ (a .args .len - 6) = record {
       size = k;
       within = omega arith;
-      holds = e ∙ fitted-over (take (a .args .at + a .args .len - (a .args .at + 6)) (drop (a .args .at + 6) t)) b (omega (arith, ap length s, k)) ∙ ap (λ (o : List ℕ). over o b) s;
+      holds = copied (take (a .args .at + a .args .len - (a .args .at + 6)) (drop (a .args .at + 6) t)) b _ _ refl e ∙ ap (λ (o : List ℕ). over o b) s;
     } in
     (ap (λ (j : ℕ). j + 3) (sym k) ∙ sym (named-size n), λ l. wrote-three w (omega arith) 32 64 32 .holds)
 
 pub put-name-spec : {M : Type 1} → statement M
 put-name-spec =
     tie.close
-    (tie.spec add-start add-end sub-n add-if1 add-result returns sub-put part-put-start part-put-end put-requires slice-write-out add-out
+    (tie.spec add-start add-end sub-n add-if1 add-result returns sub-copy part-copy-start part-copy-end copy-requires slice-write-out add-out
     slice-write-out-2 add-out-2 slice-write-out-3 add-result-2 same-length returns-2)
