@@ -240,7 +240,6 @@ fn measure_list(
 
 // The bytes of the text of a table, or its refusal: 1, then the first in the order of its records.
 pub fn measure(t: &[u8], width: usize) -> Measured
-    requires { ⌜ width < 4294967296 ⌝ }
     ensures { λ r. ⌜ Summed (tableOf true (now (t .entry))) width r ⌝ }
 {
     if refusals::TABLE_LIMIT < t.len() {
