@@ -9,7 +9,7 @@ use Rattle.wide.specs.Decimal.{digits, decimalOf}
 use Rattle.wide.specs.Bytes.{le, number}
 use Rattle.table.specs.Trees.{Tree, Trees, symbol, integer, binding, list, none, more, runsOn, isSymbol, record-of, records, recordsOf}
 use Rattle.table.specs.Records.{recordAt}
-use Rattle.table.specs.Decoding.{itemsAt, treeAt, treesAt, tableOf}
+use Rattle.table.specs.Decoding.{itemsAt, stepAt, treeAt, treesAt, tableOf}
 use Rattle.printer.specs.Layout.{cost, lay, pageFrom, page}
 use Rattle.printer.specs.Printing.{printing, printedInto}
 use Rattle.printer.specs.Printing as print
@@ -69,9 +69,9 @@ sizes = refl
 
 -- the same of their tables: the answer of `print`, and a buffer of that size after it
 pub answers : map (λ (c : Case). printing (recordsOf (c .trees)) (c .width) (c .size)) cases ≡ map (λ (c : Case). print.text (c .size)) cases
-unfolding cases cost lay pageFrom decimalOf digits printing tableOf treesAt treeAt itemsAt recordAt number isSymbol runsOn classOf records record-of le
+unfolding cases cost lay pageFrom decimalOf digits printing tableOf treesAt treeAt itemsAt recordAt stepAt number isSymbol runsOn classOf records record-of le
 answers = refl
 
 pub buffers : map (λ (c : Case). printedInto (recordsOf (c .trees)) (c .width) (replicate (c .size) 0)) cases ≡ map (λ (c : Case). c .text) cases
-unfolding cases cost lay pageFrom decimalOf digits printedInto tableOf treesAt treeAt itemsAt recordAt number isSymbol runsOn classOf records record-of le
+unfolding cases cost lay pageFrom decimalOf digits printedInto tableOf treesAt treeAt itemsAt recordAt stepAt number isSymbol runsOn classOf records record-of le
 buffers = refl

@@ -1,7 +1,7 @@
 -- How little the promises leave open: of each public function, two results (and two lent memories) that meet its promise are equal. Assumes nothing.
 use Prim.Native.Nat.{ℕ, _+_, _*_, _-_, _^_, _<_}
 use mathlib.Core.Path.{_≡_, refl, sym, ap, _∙_}
-use mathlib.Core.Bool.{Bool}
+use mathlib.Core.Bool.{Bool, false}
 use mathlib.Core.List.{List}
 use lib.ListN.{length, getD, drop}
 use lib.IntN.{ℤ, pos}
@@ -9,6 +9,7 @@ use mir.Syntax.{w64}
 use mir.Val.{ofZ}
 use lib.Signed.{ltZ}
 use Rattle.refusals.specs.declared.Refusal.{Refusal}
+use Rattle.refusals.specs.Numbers.{depthLimit}
 use Rattle.lists.specs.Over.{fitted}
 use Rattle.classes.specs.declared.Class.{Class}
 use Rattle.classes.specs.Classes.{classOf, blank, lineEnd, symbolFirst, symbolOther, digitOf, literalByte}
@@ -41,7 +42,9 @@ use Rattle.table.specs.declared.Checked.{Checked}
 use Rattle.table.specs.Trees.{isSymbol}
 use Rattle.table.specs.declared.Record.{Record}
 use Rattle.table.specs.Records.{recordAt}
-use Rattle.table.specs.Decoding.{tableOf, judged, verdictOf}
+use Rattle.table.specs.declared.Step.{Step}
+use Rattle.table.specs.Decoding.{stepAt, treeAt, tableOf, judged, verdictOf}
+use Rattle.table.specs.Walking.{pastSymbol, pastOf}
 use Rattle.table.proofs.Answers.{verdict-same}
 use Rattle.printer.specs.declared.Printed.{Printed}
 use Rattle.printer.specs.declared.Printed.the-variants as printed
@@ -266,6 +269,9 @@ pub record OneAnswer : Type 0 where
   pub feeder-lent·close-through : (s : State) → OneHeld Fed FedFits (λ r. fedOf r ≡ closeOf s)
   pub table·record-at : (t : List ℕ) (at : ℕ) → One Record (λ r. r ≡ recordAt t at)
   pub table·is-symbol : (s : List ℕ) → One Bool (λ r. r ≡ isSymbol s)
+  pub table·step-at : (t : List ℕ) (at : ℕ) (deeper printing : Bool) → One Step (λ r. r ≡ stepAt t printing at deeper)
+  pub table·past-symbol : (t : List ℕ) (at : ℕ) → One ℕ (λ r. r ≡ pastSymbol t at)
+  pub table·past : (t : List ℕ) (at : ℕ) → One ℕ (λ r. r ≡ pastOf at (treeAt t false depthLimit at))
   pub table·check : (t : List ℕ) (printing : Bool) → One Checked (λ r. verdictOf r ≡ judged (tableOf printing t))
   pub printer·print : (t : List ℕ) (width : ℕ) (out : List ℕ) → Both Printed (List ℕ) (λ r exit. (printOf r ≡ printingOf t width (length out)) × (exit ≡ printedInto t width out))
   pub reader·read : (src room : List ℕ) → Both Readout (List ℕ) (λ r exit. (readOf r ≡ readingOf src (length room)) × (exit ≡ readInto src room))
@@ -308,6 +314,9 @@ one-answer = record {
   feeder-lent·close-through = λ s. held FedFits fedOf fed-same _;
   table·record-at = λ t at. one _;
   table·is-symbol = λ s. one _;
+  table·step-at = λ t at deeper printing. one _;
+  table·past-symbol = λ t at. one _;
+  table·past = λ t at. one _;
   table·check = λ t printing. seen verdictOf verdict-same _;
   printer·print = λ t width out. seen-both printOf print-same _ _;
   reader·read = λ src room. seen-both readOf read-same _ _;

@@ -4,6 +4,7 @@ use mathlib.Core.Bool.{Bool, true, false}
 use mathlib.Core.List.{List, [], _∷_}
 use Prim.Native.Nat.{ℕ, suc, _+_}
 use native.Mathlib.Omega.{arith}
+use Rattle.refusals.specs.Numbers.{depthLimit}
 use Rattle.classes.specs.Classes.{classOf}
 use Rattle.wide.specs.Bytes.{number}
 use Rattle.lexer.specs.Tokens.{token, lparen, rparen, symbol}
@@ -12,9 +13,11 @@ use Rattle.feeder.specs.declared.Mode.the-variants.{Blank, Line, Opener, Symbol
 use Rattle.feeder.specs.Machine.{turn, step, closing}
 use Rattle.feeder.specs.Feeding.{Reply, more, finish, ready, refuse, Fed, fed, live, closed, dead, freshState, feedFrom, feedOf, closeOf}
 use Rattle.table.specs.declared.Record.the-variants.{Symbol, Integer, Binding, Bad}
+use Rattle.table.specs.declared.Step.the-variants as judged-as
+use Rattle.table.specs.Walking.{pastSymbol, pastOf}
 use Rattle.table.specs.Trees.{runsOn, isSymbol}
 use Rattle.table.specs.Records.{recordAt}
-use Rattle.table.specs.Decoding.{itemsAt, treeAt, treesAt, tableOf, Verdict, good, bad, judged}
+use Rattle.table.specs.Decoding.{itemsAt, stepAt, treeAt, treesAt, tableOf, Verdict, good, bad, judged}
 
 abbrev Not : Type 0 → Type 0
 Not P = P → ⊥
@@ -67,11 +70,38 @@ symbol-digit : Not (true ≡ isSymbol (49 ∷ 97 ∷ []))
 unfolding isSymbol runsOn classOf
 symbol-digit e = let z : _≡_ {A = ℕ} 0 1 = cc in omega arith
 
+-- table::step_at: an empty symbol is let through; a list that is too deep is let through
+step-empty : Not (judged-as.Symbol 6 ≡ stepAt (6 ∷ 0 ∷ 0 ∷ 0 ∷ 1 ∷ 0 ∷ []) false 0 true)
+unfolding stepAt recordAt number isSymbol
+step-empty e = let z : _≡_ {A = ℕ} 0 1 = cc in omega arith
+
+step-deep : Not (judged-as.List 0 ≡ stepAt (10 ∷ 0 ∷ 0 ∷ 0 ∷ 4 ∷ 0 ∷ 0 ∷ 0 ∷ 0 ∷ 0 ∷ []) false 0 false)
+unfolding stepAt recordAt number
+step-deep e = let z : _≡_ {A = ℕ} 0 1 = cc in omega arith
+
+-- table::past_symbol: past an empty symbol; not past a good one
+past-empty : Not (6 ≡ pastSymbol (6 ∷ 0 ∷ 0 ∷ 0 ∷ 1 ∷ 0 ∷ []) 0)
+unfolding pastSymbol recordAt number isSymbol
+past-empty e = omega arith
+
+past-stays : Not (0 ≡ pastSymbol (7 ∷ 0 ∷ 0 ∷ 0 ∷ 1 ∷ 0 ∷ 97 ∷ []) 0)
+unfolding pastSymbol recordAt number isSymbol runsOn classOf
+past-stays e = omega arith
+
+-- table::past: past a list's record and not its item; past a list whose item is missing
+past-item : Not (10 ≡ pastOf 0 (treeAt (10 ∷ 0 ∷ 0 ∷ 0 ∷ 4 ∷ 0 ∷ 1 ∷ 0 ∷ 0 ∷ 0 ∷ 7 ∷ 0 ∷ 0 ∷ 0 ∷ 1 ∷ 0 ∷ 97 ∷ []) false depthLimit 0))
+unfolding treeAt itemsAt recordAt stepAt number isSymbol runsOn classOf
+past-item e = omega arith
+
+past-missing : Not (10 ≡ pastOf 0 (treeAt (10 ∷ 0 ∷ 0 ∷ 0 ∷ 4 ∷ 0 ∷ 1 ∷ 0 ∷ 0 ∷ 0 ∷ []) false depthLimit 0))
+unfolding treeAt itemsAt recordAt stepAt number
+past-missing e = omega arith
+
 -- table::check: the empty table is refused; a table that ends inside a list is good
 check-empty : Not (bad 15 0 ≡ judged (tableOf false []))
 unfolding tableOf treesAt
 check-empty e = let z : _≡_ {A = ℕ} 0 1 = cc in omega arith
 
 check-missing : Not (good ≡ judged (tableOf false (10 ∷ 0 ∷ 0 ∷ 0 ∷ 4 ∷ 0 ∷ 1 ∷ 0 ∷ 0 ∷ 0 ∷ [])))
-unfolding tableOf treesAt treeAt itemsAt recordAt number
+unfolding tableOf treesAt treeAt itemsAt recordAt stepAt number
 check-missing e = let z : _≡_ {A = ℕ} 0 1 = cc in omega arith

@@ -25,7 +25,7 @@ use Rattle.feeder.specs.Machine.{turn, step, closing}
 use Rattle.feeder.specs.Feeding.{live, closed, freshState, feedFrom, feedOf, closeOf, replyOf}
 use Rattle.table.specs.Trees.{runsOn, isSymbol, record-of, records}
 use Rattle.table.specs.Records.{recordAt}
-use Rattle.table.specs.Decoding.{treeAt, treesAt, tableOf}
+use Rattle.table.specs.Decoding.{stepAt, treeAt, treesAt, tableOf}
 use Rattle.reader.specs.Grammar.{readItems, readTree, fileOf}
 use Rattle.reader.specs.Reading.{reading, readInto}
 use Rattle.printer.specs.Layout.{lay, pageFrom}
@@ -207,13 +207,13 @@ a = 7 ∷ 0 ∷ 0 ∷ 0 ∷ 1 ∷ 0 ∷ 97 ∷ []
 
 -- tulbazhik_print: 0 bytes; the bytes needed given as a length; a text changed where the room is too short
 print-none : Not (0 ∷ 0 ∷ [] ≡ printWords (printing a 0 2))
-unfolding printing tableOf treesAt treeAt recordAt number isSymbol runsOn classOf lay pageFrom
+unfolding printing tableOf treesAt treeAt recordAt stepAt number isSymbol runsOn classOf lay pageFrom
 print-none e = let z : _≡_ {A = ℕ} 0 2 = word 1 _ _ e in omega arith
 
 print-needed : Not (0 ∷ 2 ∷ [] ≡ printWords (printing a 0 1))
-unfolding printing tableOf treesAt treeAt recordAt number isSymbol runsOn classOf lay pageFrom
+unfolding printing tableOf treesAt treeAt recordAt stepAt number isSymbol runsOn classOf lay pageFrom
 print-needed e = let z : _≡_ {A = ℕ} 0 18 = word 0 _ _ e in omega arith
 
 print-changed : Not (97 ∷ [] ≡ printedInto a 0 (0 ∷ []))
-unfolding printedInto tableOf treesAt treeAt recordAt number isSymbol runsOn classOf lay pageFrom
+unfolding printedInto tableOf treesAt treeAt recordAt stepAt number isSymbol runsOn classOf lay pageFrom
 print-changed e = let z : _≡_ {A = ℕ} 97 0 = word 0 _ _ e in omega arith

@@ -14,7 +14,7 @@ use Rattle.lexer.specs.Lexing.{skip, symbolEnd, lexIn, nextToken}
 use Rattle.lexer.specs.Streams.{Stream, done, stop, then, tokensFrom, tokensOf}
 use Rattle.table.specs.Trees.{runsOn, isSymbol, record-of, records}
 use Rattle.table.specs.Records.{recordAt}
-use Rattle.table.specs.Decoding.{itemsAt, treeAt, treesAt, tableOf}
+use Rattle.table.specs.Decoding.{itemsAt, stepAt, treeAt, treesAt, tableOf}
 use Rattle.reader.specs.Grammar.{readItems, readTree, fileOf}
 use Rattle.reader.specs.Reading.{Read, table, no as noTable, reading, readInto}
 use Rattle.printer.specs.Layout.{cost, lay, pageFrom}
@@ -94,5 +94,5 @@ cases =
     ∷ []
 
 pub worked : map (λ (c : Case). ran (c .run)) cases ≡ map (λ (c : Case). c .answer) cases
-unfolding cases tokensFrom nextToken lexIn skip symbolEnd classOf literalByte digitOf taken grow digitsRead literalEnd radixOf concluded unsignedIn val grown integerOf reading readInto fileOf readItems readTree records record-of le number printing printedInto tableOf treesAt treeAt itemsAt recordAt isSymbol runsOn pageFrom lay cost digits decimalOf
+unfolding cases tokensFrom nextToken lexIn skip symbolEnd classOf literalByte digitOf taken grow digitsRead literalEnd radixOf concluded unsignedIn val grown integerOf reading readInto fileOf readItems readTree records record-of le number printing printedInto tableOf treesAt treeAt itemsAt recordAt stepAt isSymbol runsOn pageFrom lay cost digits decimalOf
 worked = refl

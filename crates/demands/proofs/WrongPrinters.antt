@@ -9,7 +9,7 @@ use Rattle.wide.specs.Bytes.{le, number}
 use Rattle.lists.specs.Over.{over}
 use Rattle.table.specs.Trees.{Tree, Trees, symbol, none, more, runsOn, isSymbol, record-of, records}
 use Rattle.table.specs.Records.{recordAt}
-use Rattle.table.specs.Decoding.{itemsAt, treeAt, treesAt, tableOf}
+use Rattle.table.specs.Decoding.{itemsAt, stepAt, treeAt, treesAt, tableOf}
 use Rattle.printer.specs.Layout.{cost, lay, pageFrom, page}
 use Rattle.printer.specs.Printing.{printedInto}
 use Rattle.demands.proofs.Layouts.{rule}
@@ -53,15 +53,15 @@ abbrev pub untouched : Printer
 untouched t w b = b
 
 pub one-line : Keeps oneLine → ⊥
-unfolding printedInto tableOf treesAt treeAt itemsAt recordAt number isSymbol runsOn classOf cost lay pageFrom records record-of le
+unfolding printedInto tableOf treesAt treeAt itemsAt recordAt stepAt number isSymbol runsOn classOf cost lay pageFrom records record-of le
 one-line f = let e : _≡_ {A = ℕ} 32 10 = ap (λ (l : List ℕ). getD l 5 0) (f (records rule) 13 (replicate 24 0)) in omega arith
 
 -- the empty table leaves the buffer, and the table of `a` changes it
 pub same-bytes : (o : List ℕ) → Keeps (sameBytes o) → ⊥
-unfolding printedInto tableOf treesAt treeAt recordAt number isSymbol runsOn classOf lay pageFrom records record-of le
+unfolding printedInto tableOf treesAt treeAt recordAt stepAt number isSymbol runsOn classOf lay pageFrom records record-of le
 same-bytes o f =
     let e : _≡_ {A = ℕ} 0 97 = ap (λ (l : List ℕ). getD l 0 0) (sym (f [] 0 (0 ∷ 0 ∷ [])) ∙ f (records a) 0 (0 ∷ 0 ∷ [])) in omega arith
 
 pub leaves-all : Keeps untouched → ⊥
-unfolding printedInto tableOf treesAt treeAt recordAt number isSymbol runsOn classOf lay pageFrom records record-of le
+unfolding printedInto tableOf treesAt treeAt recordAt stepAt number isSymbol runsOn classOf lay pageFrom records record-of le
 leaves-all f = let e : _≡_ {A = ℕ} 0 97 = ap (λ (l : List ℕ). getD l 0 0) (f (records a) 0 (0 ∷ 0 ∷ [])) in omega arith

@@ -6,24 +6,43 @@ use Prim.Native.Nat.{ℕ, suc, _+_, _-_, _≤_, _<_}
 use native.Mathlib.Omega.{arith}
 use lib.ListN.{length}
 use lib.Dec.{ltb}
-use borrow.Author.Tests.{ltb-true}
-use Rattle.refusals.specs.Numbers.{tooDeep, badSymbol, lowest}
+use Rattle.refusals.specs.Numbers.{tooDeep, badRecord, badSymbol, lowest}
 use Rattle.wide.specs.Bytes.{integerAt}
 use Rattle.table.specs.Trees.{Tree, Trees, symbol, integer, binding, list, none, more, isSymbol}
 use Rattle.table.specs.declared.Record.{Record}
 use Rattle.table.specs.declared.Record.the-variants.{Symbol, Integer, Binding, List as ListOf, Bad}
 use Rattle.table.specs.Records.{recordAt, payload}
-use Rattle.table.specs.Decoding.{Found, found, refused, andThen, itemsAt, isLowest, ofRecord, treeAt}
-use Rattle.table.proofs.Reading.{Ends, tree-end, tree-of}
+use Rattle.table.specs.Decoding.{Found, found, refused, andThen, itemsAt, isLowest, stepOf, stepAt, ofStep, treeAt}
+use Rattle.table.specs.declared.Step.{Step}
+use Rattle.table.specs.declared.Step.the-variants as step
+use Rattle.table.proofs.Reading.{Ends, StepIn, tree-end, tree-of}
+use Rattle.table.proofs.Steps.{step-tree, step-in}
 use Rattle.printer.specs.Code.{Right, treeOf, treesOf, nextOf}
 
-right-then : {A : Type 0} (b : Bool) (y : Found A) (n a : ℕ) → Right (cond b y (refused n a)) → (b ≡ true) × (cond b y (refused n a) ≡ y) × Right y
-right-then true y n a r = (refl, refl, r)
-right-then false y n a r = absurd r
+-- a record that is found has no fault
+abbrev plain : Record → Step
+plain (Symbol len) = step.Symbol len
+plain Integer = step.Integer
+plain (Binding len) = step.Binding len
+plain (ListOf n) = step.List n
+plain Bad = step.Fault badRecord
 
-right-else : {A : Type 0} (b : Bool) (y : Found A) (n a : ℕ) → Right (cond b (refused n a) y) → cond b (refused n a) y ≡ y
-right-else true y n a r = absurd r
-right-else false y n a r = refl
+module _ (t : List ℕ) (at : ℕ) (f : ℕ → Found Tree) where
+  right-then : (b : Bool) (s : Step) (n : ℕ) → Right (ofStep t at f (cond b s (step.Fault n))) → cond b s (step.Fault n) ≡ s
+  right-then true s n r = refl
+  right-then false s n r = absurd r
+
+  right-else : (b : Bool) (s : Step) (n : ℕ) → Right (ofStep t at f (cond b (step.Fault n) s)) → cond b (step.Fault n) s ≡ s
+  right-else true s n r = absurd r
+  right-else false s n r = refl
+
+  plain-is : (o : Bool) (x : Record) → Right (ofStep t at f (stepOf t true at o x)) → stepOf t true at o x ≡ plain x
+  plain-is o (Symbol len) r = right-then (isSymbol (payload t at len)) (step.Symbol len) badSymbol r
+  plain-is o Integer r = right-else (isLowest t at) step.Integer lowest r
+  plain-is true (Binding len) r = right-then (isSymbol (payload t at len)) (step.Binding len) badSymbol r
+  plain-is false (Binding len) r = absurd r
+  plain-is o (ListOf n) r = right-then o (step.List n) tooDeep r
+  plain-is o Bad r = refl
 
 -- a found tree y is the binding or list of a found part z
 pub record Made (d : ℕ) {A : Type 0} (make : A → Tree) (part : Found A → A) (y : Found Tree) (z : Found A) : Type 0 where
@@ -37,35 +56,36 @@ made {A} d make part f y (found x q) h r e = record { deeper = h; right = tt; is
 made d make part f y (refused n a) h r e = absurd r
 
 module _ (t : List ℕ) (d at : ℕ) (x : Record) (r : Right (treeAt t true d at)) (e : x ≡ recordAt t at) where
-  step : (y : Record) → x ≡ y → treeAt t true d at ≡ ofRecord t true at (ltb 0 d) (treeAt t true (d - 1)) y
-  step y e′ = tree-of t true d at x e ∙ ap (ofRecord t true at (ltb 0 d) (treeAt t true (d - 1))) e′
+  plainly : (y : Record) → x ≡ y → stepAt t true at (ltb 0 d) ≡ plain y
+  unfolding stepAt
+  plainly y e′ =
+      let k : recordAt t at ≡ y = sym e ∙ e′ in
+      ap (stepOf t true at (ltb 0 d)) k ∙ plain-is t at (treeAt t true (d - 1)) (ltb 0 d) y (subst Right (tree-of t true d at y (sym k)) r)
+
+  is-plain : (y : Record) → x ≡ y → treeAt t true d at ≡ ofStep t at (treeAt t true (d - 1)) (plain y)
+  is-plain y e′ = step-tree t true d at (stepAt t true at (ltb 0 d)) (plain y) refl (plainly y e′)
+
+  plain-in : (y : Record) → x ≡ y → StepIn t true d at (plain y)
+  plain-in y e′ = step-in t true d at (stepAt t true at (ltb 0 d)) (plain y) refl (plainly y e′)
 
   pub bad-found : x ≡ Bad → ⊥
-  bad-found e′ = subst Right (step Bad e′) r
+  bad-found e′ = subst Right (is-plain Bad e′) r
 
   pub symbol-found : (len : ℕ) → x ≡ Symbol len → treeAt t true d at ≡ found (symbol (payload t at len)) (at + len)
-  symbol-found len e′ =
-      step (Symbol len) e′
-      ∙ (right-then (isSymbol (payload t at len)) (found (symbol (payload t at len)) (at + len)) badSymbol at (subst Right (step (Symbol len) e′) r)) .1
+  symbol-found len e′ = is-plain (Symbol len) e′
 
   pub integer-found : x ≡ Integer → treeAt t true d at ≡ found (integer (integerAt t (at + 6))) (at + 22)
-  integer-found e′ =
-      step Integer e′
-      ∙ right-else (isLowest t at) (found (integer (integerAt t (at + 6))) (at + 22)) lowest at (subst Right (step Integer e′) r)
+  integer-found e′ = is-plain Integer e′
 
   pub binding-found : (len : ℕ) → x ≡ Binding len → Made d (binding (payload t at len)) treeOf (treeAt t true d at) (treeAt t true (d - 1) (at + len))
   binding-found len e′ =
-      let sub : Found Tree = andThen (treeAt t true (d - 1) (at + len)) (λ y q. found (binding (payload t at len) y) q) in
-      let a = right-then (ltb 0 d) (cond (isSymbol (payload t at len)) sub (refused badSymbol at)) tooDeep at (subst Right (step (Binding len) e′) r) in
-      let b = right-then (isSymbol (payload t at len)) sub badSymbol at (a .2) in
-      made d (binding (payload t at len)) treeOf (λ y q. refl) (treeAt t true d at) (treeAt t true (d - 1) (at + len)) (ltb-true 0 d (a .0)) (b .2)
-      (step (Binding len) e′ ∙ a .1 ∙ b .1)
+      made d (binding (payload t at len)) treeOf (λ y q. refl) (treeAt t true d at) (treeAt t true (d - 1) (at + len)) (plain-in (Binding len) e′ .2)
+      (subst Right (is-plain (Binding len) e′) r) (is-plain (Binding len) e′)
 
   pub list-found : (n : ℕ) → x ≡ ListOf n → Made d list treesOf (treeAt t true d at) (itemsAt (treeAt t true (d - 1)) n (at + 10))
   list-found n e′ =
-      let z : Found Trees = itemsAt (treeAt t true (d - 1)) n (at + 10) in
-      let a = right-then (ltb 0 d) (andThen z (λ ys q. found (list ys) q)) tooDeep at (subst Right (step (ListOf n) e′) r) in
-      made d list treesOf (λ y q. refl) (treeAt t true d at) z (ltb-true 0 d (a .0)) (a .2) (step (ListOf n) e′ ∙ a .1)
+      made d list treesOf (λ y q. refl) (treeAt t true d at) (itemsAt (treeAt t true (d - 1)) n (at + 10)) (plain-in (ListOf n) e′ .1)
+      (subst Right (is-plain (ListOf n) e′) r) (is-plain (ListOf n) e′)
 
 -- a found tree ends past its place and within the table
 end-of : (p lim : ℕ) (y : Found Tree) → Ends (p + 1) lim y → Right y → (p < nextOf y) × (nextOf y ≤ lim)
@@ -83,7 +103,7 @@ pub record First (f : ℕ → Found Tree) (m p : ℕ) : Type 0 where
   pub trees : treesOf (itemsAt f (suc m) p) ≡ more (treeOf (f p)) (treesOf (itemsAt f m (nextOf (f p))))
   pub past : nextOf (itemsAt f (suc m) p) ≡ nextOf (itemsAt f m (nextOf (f p)))
 
-pub first-rest : (x : Tree) (y : Found Trees) → Right (andThen y (λ xs s. found (more x xs) s))
+first-rest : (x : Tree) (y : Found Trees) → Right (andThen y (λ xs s. found (more x xs) s))
     → Right y × (treesOf (andThen y (λ xs s. found (more x xs) s)) ≡ more x (treesOf y)) × (nextOf (andThen y (λ xs s. found (more x xs) s)) ≡ nextOf y)
 first-rest x (found xs s) r = (tt, refl, refl)
 first-rest x (refused n a) r = absurd r

@@ -2,11 +2,11 @@
 use mathlib.Core.Path.{_≡_, refl, ap, sym, subst, subst⁻¹, _∙_}
 use mathlib.Core.Bool.{Bool, true, false, cond}
 use mathlib.Core.List.{List, [], _∷_, _++_, append-assoc, append-nil}
-use Prim.Native.Nat.{ℕ, zero, suc, _+_, _*_, _-_, _≤_, _<_}
+use Prim.Native.Nat.{ℕ, _+_, _*_, _-_, _≤_, _<_}
 use native.Mathlib.Omega.{arith}
 use lib.ListN.{length, length-append, take, drop}
 use lib.Dec.{ltb}
-use borrow.Author.Tests.{lt-ltb, le-ltb, ltb-false, le-leb, lt-leb}
+use borrow.Author.Tests.{lt-ltb, ltb-false, le-leb, lt-leb}
 use borrow.Rule.Slice.PartMut.{putMid}
 use Rattle.refusals.specs.Numbers.{tableLimit, depthLimit, tooLong, printRoom}
 use Rattle.refusals.specs.declared.Refusal.{Refusal}
@@ -22,7 +22,8 @@ use Rattle.printer.specs.declared.measure.Measured.{Measured}
 use Rattle.printer.specs.declared.measure.Measured.the-variants.{Bytes, Refused as No}
 use Rattle.printer.specs.declared.Printed.{Printed}
 use Rattle.printer.specs.declared.Printed.the-variants.{Text, Refused}
-use Rattle.printer.proofs.Founds.{first-rest, found-end}
+use Rattle.table.proofs.Steps.{Read, read-begin, read-tree, read-stop, read-end}
+use Rattle.printer.proofs.Founds.{found-end}
 use Rattle.printer.proofs.Rooms.{wrote-whole, wrote-rest}
 
 -- ---- one tree with what stands around it
@@ -62,38 +63,9 @@ node-out later x w a l k r₁ r₂ b b₁ b₂ ys zs ea fa e₁ el fl eb e₂ ek
 
 -- ---- of the page the bytes o are done, and the trees from p are left
 
-pub record Paging (t : List ℕ) (w : ℕ) (all o : List ℕ) (p : ℕ) : Type 0 where
-  pub k : ℕ
-  pub enough : length t < k + p
-  pub right : Right (treesAt t true k p)
-  pub left : all ≡ o ++ pageFrom (ltb 0 p) (treesOf (treesAt t true k p)) w
-
-begin-of : (t : List ℕ) (w : ℕ) (b : Bool) → ltb tableLimit (length t) ≡ b → Right (cond b (refused tooLong tableLimit) (treesAt t true (length t + 1) 0))
-    → (length t ≤ tableLimit) × Paging t w (page (treesOf (cond b (refused tooLong tableLimit) (treesAt t true (length t + 1) 0))) w) [] 0
-begin-of t w true e r = absurd r
-begin-of t w false e r = (ltb-false tableLimit (length t) e, record { k = length t + 1; enough = omega arith; right = r; left = refl })
-
--- the tree at p, and the rest
-record First (t : List ℕ) (k p : ℕ) : Type 0 where
-  right : Right (treeAt t true depthLimit p)
-  rest : Right (treesAt t true k (nextOf (treeAt t true depthLimit p)))
-  trees : treesOf (treesAt t true (suc k) p) ≡ more (treeOf (treeAt t true depthLimit p)) (treesOf (treesAt t true k (nextOf (treeAt t true depthLimit p))))
-
-first : (t : List ℕ) (k p : ℕ) → p < length t → Right (treesAt t true (suc k) p) → First t k p
-unfolding treesAt
-first t k p l r =
-    by (treeAt t true depthLimit p) refl
-    (subst (λ (b : Bool). Right (cond b (andThen (treeAt t true depthLimit p) (λ x q. andThen (treesAt t true k q) (λ xs s. found (more x xs) s))) (found none p))) (lt-ltb p (length t) l) r)
-  where
-    by : (y : Found Tree) → treeAt t true depthLimit p ≡ y → Right (andThen y (λ x q. andThen (treesAt t true k q) (λ xs s. found (more x xs) s))) → First t k p
-    by (refused n a) e rr = absurd rr
-    by (found x q) e rr =
-        let z = first-rest x (treesAt t true k q) rr in
-        record {
-          right = subst⁻¹ Right e tt;
-          rest = subst⁻¹ (λ (v : Found Tree). Right (treesAt t true k (nextOf v))) e (z .0);
-          trees = rw (lt-ltb p (length t) l, e) (z .1);
-        }
+pub record Paging (t : List ℕ) (w : ℕ) (o : List ℕ) (p : ℕ) : Type 0 where
+  pub read : Read t true p
+  pub left : (ys : Trees) → page (read .pre ys) w ≡ o ++ pageFrom (ltb 0 p) ys w
 
 more-page : (later : Bool) (x : Tree) (xs : Trees) (w : ℕ) → pageFrom later (more x xs) w ≡ between later ++ (bytes (lay x Wrap w 0 0) ++ (10 ∷ pageFrom true xs w))
 unfolding pageFrom
@@ -103,55 +75,78 @@ more-page later x xs w = refl
 abbrev pub node : List ℕ → ℕ → ℕ → List ℕ
 node t w p = framed (ltb 0 p) (treeOf (treeAt t true depthLimit p)) w
 
-step-of : (t : List ℕ) (w : ℕ) (all o : List ℕ) (p k : ℕ) → p < length t → p ≤ length t → length t < k + p → Right (treesAt t true k p)
-    → all ≡ o ++ pageFrom (ltb 0 p) (treesOf (treesAt t true k p)) w → Right (treeAt t true depthLimit p) × Paging t w all (o ++ node t w p) (nextOf (treeAt t true depthLimit p))
-step-of t w all o p zero l hp h r e = absurd (omega arith)
-step-of t w all o p (suc k) l hp h r e =
-    let z = first t k p l r in
-    let q : ℕ = nextOf (treeAt t true depthLimit p) in
-    let xs : Trees = treesOf (treesAt t true k q) in
-    let x : Tree = treeOf (treeAt t true depthLimit p) in
-    let f = found-end t depthLimit p hp (z .right) in (
-      z .right,
-      record {
-        k = k;
-        enough = omega arith;
-        right = z .rest;
-        left =
-            e ∙ ap (λ (ys : Trees). o ++ pageFrom (ltb 0 p) ys w) (z .trees) ∙ ap (λ (s : List ℕ). o ++ s) (more-page (ltb 0 p) x xs w)
-            ∙ join o (between (ltb 0 p)) (bytes (lay x Wrap w 0 0)) (pageFrom true xs w)
-            ∙ ap (λ (b : Bool). (o ++ node t w p) ++ pageFrom b xs w) (sym (lt-ltb 0 q (omega arith)));
-      },
-    )
+paging-step : (t : List ℕ) (w : ℕ) (o : List ℕ) (p : ℕ) → Paging t w o p → p < length t → Right (tableOf true t)
+    → Right (treeAt t true depthLimit p) × Paging t w (o ++ node t w p) (nextOf (treeAt t true depthLimit p))
+paging-step t w o p g l r = by (treeAt t true depthLimit p) refl
   where
     join : (a b c d : List ℕ) → a ++ (b ++ (c ++ (10 ∷ d))) ≡ (a ++ (b ++ (c ++ (10 ∷ [])))) ++ d
     join a b c d = simp append-assoc
 
-end-of : (t : List ℕ) (w k p : ℕ) → length t ≤ p → pageFrom (ltb 0 p) (treesOf (treesAt t true k p)) w ≡ []
-unfolding treesAt pageFrom
-end-of t w zero p l = refl
-end-of t w (suc k) p l = rw (le-ltb p (length t) l) refl
+    by : (y : Found Tree) → treeAt t true depthLimit p ≡ y → Right y × Paging t w (o ++ framed (ltb 0 p) (treeOf y) w) (nextOf y)
+    by (refused n a) e = absurd (subst Right (read-stop t true p (g .read) n a l e) r)
+    by (found x q) e =
+        let n = read-tree t true p (g .read) q x l e in (
+          tt,
+          record {
+            read = n .rest;
+            left =
+                λ ys.
+                ap (λ (xs : Trees). page xs w) (n .pre-is ys) ∙ g .left (more x ys) ∙ ap (λ (s : List ℕ). o ++ s) (more-page (ltb 0 p) x ys w)
+                ∙ join o (between (ltb 0 p)) (bytes (lay x Wrap w 0 0)) (pageFrom true ys w)
+                ∙ ap (λ (b : Bool). (o ++ framed (ltb 0 p) x w) ++ pageFrom b ys w) (sym (lt-ltb 0 q (omega (arith, n .past))));
+          },
+        )
+
+paging-end : (t : List ℕ) (w : ℕ) (o : List ℕ) (p : ℕ) → Paging t w o p → length t ≤ p → page (treesOf (tableOf true t)) w ≡ o
+unfolding pageFrom
+paging-end t w o p g l = ap (λ (y : Found Trees). page (treesOf y) w) (read-end t true p (g .read) l) ∙ g .left none ∙ append-nil o
+
+-- what is done is no more than the whole
+paging-le : (t : List ℕ) (w : ℕ) (o : List ℕ) (p : ℕ) → Paging t w o p → Right (tableOf true t) → length o ≤ length (page (treesOf (tableOf true t)) w)
+paging-le t w o p g r = by (treesAt t true (g .read .k) p) (g .read .whole)
+  where
+    by : (y : Found Trees) → tableOf true t ≡ andThen y (λ ys q. found (g .read .pre ys) q) → length o ≤ length (page (treesOf (tableOf true t)) w)
+    by (found ys q) e = rw (e, g .left ys, length-append o (pageFrom (ltb 0 p) ys w)) (omega arith)
+    by (refused n a) e = absurd (subst Right e r)
 
 -- n bytes are done
 pub record Pages (t : List ℕ) (w : ℕ) (b₀ b : List ℕ) (n p : ℕ) : Type 0 where
   pub o : List ℕ
   pub size : length o ≡ n
-  pub paging : Paging t w (page (treesOf (tableOf true t)) w) o p
+  pub paging : Paging t w o p
+  pub right : Right (tableOf true t)
   pub held : length (page (treesOf (tableOf true t)) w) ≤ length b₀ → Wrote o b₀ b n
-  pub within : p ≤ length t
-  pub limit : length t ≤ tableLimit
   pub small : n ≤ 128 * p
   pub kept : length b ≡ length b₀
 
-pub pages-begin : (t : List ℕ) (w : ℕ) (b : List ℕ) → Right (tableOf true t) → Pages t w b b 0 0
+short : (t : List ℕ) → Right (tableOf true t) → length t ≤ tableLimit
 unfolding tableOf
-pages-begin t w b r =
-    let k = begin-of t w (ltb tableLimit (length t)) refl r in
-    record { o = []; size = refl; paging = k .1; held = λ l. wrote-none b; within = omega arith; limit = k .0; small = omega arith; kept = refl }
+short t r = by (ltb tableLimit (length t)) refl r
+  where
+    by : (b : Bool) → ltb tableLimit (length t) ≡ b → Right (cond b (refused tooLong tableLimit) (treesAt t true (length t + 1) 0)) → length t ≤ tableLimit
+    by true e k = absurd k
+    by false e k = ltb-false tableLimit (length t) e
+
+pub pages-begin : (t : List ℕ) (w : ℕ) (b : List ℕ) → Right (tableOf true t) → Pages t w b b 0 0
+pages-begin t w b r = record {
+  o = [];
+  size = refl;
+  paging = record { read = read-begin t true (short t r); left = λ ys. refl };
+  right = r;
+  held = λ l. wrote-none b;
+  small = omega arith;
+  kept = refl;
+}
 
 module _ {t : List ℕ} {w : ℕ} {b₀ b : List ℕ} {n p : ℕ} (h : Pages t w b₀ b n p) where
-  step : p < length t → Right (treeAt t true depthLimit p) × Paging t w (page (treesOf (tableOf true t)) w) (h .o ++ node t w p) (nextOf (treeAt t true depthLimit p))
-  step l = step-of t w (page (treesOf (tableOf true t)) w) (h .o) p (h .paging .k) l (h .within) (h .paging .enough) (h .paging .right) (h .paging .left)
+  step : p < length t → Right (treeAt t true depthLimit p) × Paging t w (h .o ++ node t w p) (nextOf (treeAt t true depthLimit p))
+  step l = paging-step t w (h .o) p (h .paging) l (h .right)
+
+  pub within : p ≤ length t
+  within = h .paging .read .within
+
+  pub limit : length t ≤ tableLimit
+  limit = h .paging .read .limit
 
   pub pages-tree : p < length t → Right (treeAt t true depthLimit p)
   pages-tree l = step l .0
@@ -160,23 +155,21 @@ module _ {t : List ℕ} {w : ℕ} {b₀ b : List ℕ} {n p : ℕ} (h : Pages t w
       → (n ≤ length b → r ≡ n) → Filled (node t w p) (take (length b - r) (drop r b)) ys → length (putMid r (length b - r) b ys) ≡ length b → Pages t w b₀ (putMid r (length b - r) b ys) (n + l) q
   pages-step lt q l r ys eq el s er f lk =
       let g = step lt .1 in
-      let e = found-end t depthLimit p (h .within) (step lt .0) in
-      let a = ap length (g .left) ∙ length-append (h .o ++ node t w p) _ in
+      let e = found-end t depthLimit p within (step lt .0) in
       let a1 = length-append (h .o) (node t w p) in
       record {
         o = h .o ++ node t w p;
         size = a1 ∙ omega (arith, h .size);
-        paging = subst⁻¹ (λ (v : ℕ). Paging t w (page (treesOf (tableOf true t)) w) (h .o ++ node t w p) v) eq g;
-        held = λ x. wrote-rest (h .held x) (node t w p) ys l r er el (omega (arith, h .size)) f;
-        within = omega (arith, e .1);
-        limit = h .limit;
+        paging = subst⁻¹ (λ (v : ℕ). Paging t w (h .o ++ node t w p) v) eq g;
+        right = h .right;
+        held = λ x. wrote-rest (h .held x) (node t w p) ys l r er el (omega (arith, h .size, paging-le t w (h .o ++ node t w p) _ g (h .right))) f;
         small = omega (arith, e .0, h .small);
         kept = lk ∙ h .kept;
       }
 
   pub pages-end : length t ≤ p → (n ≡ length (page (treesOf (tableOf true t)) w)) × Filled (page (treesOf (tableOf true t)) w) b₀ b
   pages-end l =
-      let e : page (treesOf (tableOf true t)) w ≡ h .o = h .paging .left ∙ ap (λ (s : List ℕ). h .o ++ s) (end-of t w (h .paging .k) p l) ∙ append-nil (h .o) in
+      let e : page (treesOf (tableOf true t)) w ≡ h .o = paging-end t w (h .o) p (h .paging) l in
       (sym (ap length e ∙ h .size), λ x. (h .held x) .holds ∙ ap (λ (o : List ℕ). over o b₀) (sym e))
 
 -- ---- the answer

@@ -3,53 +3,35 @@
 use mathlib.Core.Path.{_≡_, refl, ap, sym, subst, subst⁻¹, _∙_}
 use mathlib.Core.Bool.{Bool, true, false, cond}
 use mathlib.Core.List.{List, [], _∷_, _++_}
-use Prim.Native.Nat.{ℕ, zero, suc, _+_, _*_, _-_, _^_, _≤_, _<_}
+use Prim.Native.Nat.{ℕ, _+_, _*_, _-_, _^_, _≤_, _<_}
 use native.Mathlib.Omega.{arith}
-use native.Mathlib.Nat.{pos-of-ne-zero, mul-le-mul-left}
+use native.Mathlib.Nat.{mul-le-mul-left}
 use lib.ListN.{length, length-append}
 use lib.IntN.{ℤ}
-use lib.Dec.{ltb, eqb, lit<}
+use lib.Dec.{ltb, eqb}
 use borrow.Author.Tests.{lt-ltb, le-ltb, ne-eqb}
-use Rattle.refusals.specs.Numbers.{tableLimit, depthLimit, tooLong, tooDeep, badRecord, badSymbol, lowest}
-use Rattle.wide.specs.Bytes.{integerAt}
+use Rattle.refusals.specs.Numbers.{tableLimit, depthLimit, tooLong}
+use Rattle.wide.specs.Bytes.{wideIn}
 use Rattle.wide.specs.Decimal.{decimalOf}
 use Rattle.wide.proofs.Numbers.{Bytes}
-use Rattle.table.specs.Trees.{Tree, Trees, symbol, integer, binding, list, none, more, count, isSymbol, records}
-use Rattle.table.specs.declared.Record.{Record}
-use Rattle.table.specs.declared.Record.the-variants.{Symbol, Integer, Binding, List as ListOf, Bad}
-use Rattle.table.specs.Records.{recordAt, payload}
-use Rattle.table.specs.Decoding.{Found, found, refused, andThen, itemsAt, isLowest, ofRecord, treeAt, treesAt, tableOf}
+use Rattle.table.specs.Trees.{Tree, Trees, symbol, list, none, more, count, records}
+use Rattle.table.specs.Records.{payload}
+use Rattle.table.specs.Decoding.{Found, found, refused, andThen, itemsAt, stepAt, ofStep, treeAt, tableOf}
+use Rattle.table.specs.declared.Step.{Step}
+use Rattle.table.specs.declared.Step.the-variants as step
+use Rattle.table.specs.Walking.{pastSymbol}
 use Rattle.table.proofs.Stands.{part-size}
-use Rattle.table.proofs.Reading.{Ends, read-in, symbol-in, tree-end, tree-of}
 use Rattle.table.proofs.Decoded.{Holds, tree-holds, part-lt}
+use Rattle.table.proofs.Steps.{step-tree, step-in, symbol-there, found-in, Gone, gone-begin, gone-item, gone-stop, gone-end}
+use Rattle.table.proofs.Steps.{Read, too-long, read-begin, read-tree, read-stop, read-end}
 use Rattle.printer.specs.Layout.{Wrap, bytes, named, lay, cost, costs, pageFrom, page}
-use Rattle.printer.specs.Measuring.{alone, empties, emptiesOf, Named, Sized, Summed, itemIndent, itemColumn}
+use Rattle.printer.specs.Measuring.{alone, empties, emptiesOf, Sized, Summed, itemIndent, itemColumn}
 use Rattle.printer.specs.declared.measure.Size.{Size}
 use Rattle.printer.specs.declared.measure.Measured.the-variants.{Bytes as Text, Refused}
+use Rattle.printer.proofs.Entries.{integer-value}
 use Rattle.printer.proofs.Singles.{named-size}
 use Rattle.printer.proofs.Bounds.{inner-le, lay-len}
 use Rattle.printer.proofs.Sizes.{sums, wide-size, line-size, line-len}
-
--- ---- a name
-
-pub name-past : (t : List ℕ) (at len : ℕ) (x : Record) (b : Bool) → x ≡ recordAt t at → x ≡ Symbol len → b ≡ isSymbol (payload t at len) → b ≡ true
-    → Named t at (at + len)
-name-past t at len x b e e′ f h l = let k : at + len - at ≡ len = omega arith in rw k (sym e ∙ e′, sym f ∙ h)
-
-pub name-not : (t : List ℕ) (at : ℕ) → Named t at at
-name-not t at l = absurd (omega arith)
-
--- ---- an integer's record
-
-pub integer-low : (t : List ℕ) (at : ℕ) (b : Bool) (r : Size) → b ≡ isLowest t at → b ≡ true → r .number ≡ lowest → r .place ≡ at
-    → (w i c : ℕ) → Sized (ofRecord t true at false (refused tooDeep) Integer) w i c r
-integer-low t at b r e h en ep w i c = rw (← e, h) (en, lit< tt, ep)
-
-pub integer-sized : (t : List ℕ) (at n : ℕ) (b : Bool) (z : ℤ) (r : Size) → b ≡ isLowest t at → b ≡ false → n ≡ length (decimalOf z) → z ≡ integerAt t (at + 6)
-    → r ≡ record { number = 0; place = at + 22; cost = n; empty = 0; len = n }
-    → (w i c : ℕ) → Sized (ofRecord t true at false (refused tooDeep) Integer) w i c r
-unfolding lay cost empties
-integer-sized t at n b z r e h en ez er w i c = rw (← e, h, er, en, ez) (refl, refl, refl, refl, refl)
 
 -- ---- what stands at a place, where it was measured as a tree
 
@@ -73,22 +55,17 @@ got-tree t d p w i c m s h = got-of t d p w i c m (treeAt t true d p) refl s h
 payload-size : (t : List ℕ) (at len : ℕ) → 6 ≤ len → len ≤ length t - at → length (payload t at len) ≡ len - 6
 payload-size t at len h6 hl = part-size t (at + 6) (len - 6) (omega arith)
 
-pub got-name : (t : List ℕ) (d p w i c q : ℕ) → Named t p q → p < q → (6 ≤ q - p) × Got t d p w i c q (q - p - 6) 0 (q - p - 6)
+pub got-name : (t : List ℕ) (d p w i c q : ℕ) → q ≡ pastSymbol t p → p < q → (6 ≤ q - p) × Got t d p w i c q (q - p - 6) 0 (q - p - 6)
 unfolding lay cost empties
-got-name t d p w i c q f l =
-    let n = f l in
-    let h = symbol-in t p (q - p) (recordAt t p) refl (n .0) in
-    let s = payload-size t p (q - p) (h .0) (h .1) in
-    let e : p + (q - p) ≡ q = omega arith in (
-      h .0,
-      record {
-        tree = symbol (payload t p (q - p));
-        is = tree-of t true d p (Symbol (q - p)) (sym (n .0)) ∙ rw (n .1, e) refl;
-        costs-it = sym s;
-        empties-it = refl;
-        lays-it = sym s;
-      },
-    )
+got-name t d p w i c q e l =
+    let n = symbol-there t true d p q e l in
+    let s = payload-size t p (q - p) (n .0) (n .1) in
+    (n .0, record { tree = symbol (payload t p (q - p)); is = n .2; costs-it = sym s; empties-it = refl; lays-it = sym s })
+
+-- what was refused there
+stop-of : (y : Found Tree) (w i c : ℕ) (m : Size) → Sized y w i c m → 0 < m .number → y ≡ refused (m .number) (m .place)
+stop-of (found x q) w i c m s l = absurd (omega (arith, s .0))
+stop-of (refused n a) w i c m s l = rw (s .0, s .2) refl
 
 -- its numbers are bounded by its records
 pub record Small (t : List ℕ) (p q cost′ empty len : ℕ) : Type 0 where
@@ -100,151 +77,96 @@ pub record Small (t : List ℕ) (p q cost′ empty len : ℕ) : Type 0 where
 pub small : (t : List ℕ) (d p w i c q cost′ empty len : ℕ) → Bytes t → p ≤ length t → i + d ≤ depthLimit → Got t d p w i c q cost′ empty len
     → Small t p q cost′ empty len
 small t d p w i c q cost′ empty len hb hp h g =
-    let e = subst (Ends (p + 1) (length t)) (g .is) (tree-end t true d p hp) in
+    let e = found-in t true d p q (g .tree) hp (g .is) in
     let k = subst (Holds t true d p) (g .is) (tree-holds t hb true d p hp) in
     let a = line-len (g .tree) d (k .2) (omega arith) in
     let b = lay-len (g .tree) d Wrap w i c (k .2) h in
     let z : q - p ≡ length (records (g .tree)) = omega (arith, k .1) in
     record {
-      past = omega (arith, e .0);
+      past = e .0;
       within = e .1;
       lines = rw z (omega (arith, g .costs-it, g .empties-it));
       lays = rw z (omega (arith, g .lays-it));
     }
 
--- ---- a record x that was read
+-- ---- a judged record s
 
-module _ (t : List ℕ) (d at : ℕ) (x : Record) (e : x ≡ recordAt t at) (w i c : ℕ) (r : Size) where
-  step : (y : Record) → x ≡ y → treeAt t true d at ≡ ofRecord t true at (ltb 0 d) (treeAt t true (d - 1)) y
-  step y e′ = tree-of t true d at x e ∙ ap (ofRecord t true at (ltb 0 d) (treeAt t true (d - 1))) e′
+module _ (t : List ℕ) (d at : ℕ) (s : Step) (e : s ≡ stepAt t true at (ltb 0 d)) (w i c : ℕ) (r : Size) where
+  to : (s′ : Step) → s ≡ s′ → Sized (ofStep t at (treeAt t true (d - 1)) s′) w i c r → Sized (treeAt t true d at) w i c r
+  to s′ e′ k = subst⁻¹ (λ (v : Found Tree). Sized v w i c r) (step-tree t true d at s s′ e e′) k
 
-  to : (y : Found Tree) → treeAt t true d at ≡ y → Sized y w i c r → Sized (treeAt t true d at) w i c r
-  to y f s = subst⁻¹ (λ (v : Found Tree). Sized v w i c r) f s
+  pub at-fault : (n : ℕ) → s ≡ step.Fault n → (r .number ≡ n) × (r .place ≡ at) → Sized (treeAt t true d at) w i c r
+  at-fault n e′ k = to (step.Fault n) e′ (k .0, step-in t true d at s (step.Fault n) e e′, k .1)
 
-  pub at-bad : x ≡ Bad → (r .number ≡ badRecord) × (r .place ≡ at) → Sized (treeAt t true d at) w i c r
-  at-bad e′ k = to (refused badRecord at) (step Bad e′) (k .0, lit< tt, k .1)
-
-  pub symbol-bad : (len : ℕ) (b : Bool) → x ≡ Symbol len → b ≡ isSymbol (payload t at len) → b ≡ false → (r .number ≡ badSymbol) × (r .place ≡ at)
+  pub at-symbol : (len : ℕ) → s ≡ step.Symbol len → r ≡ record { number = 0; place = at + len; cost = len - 6; empty = 0; len = len - 6 }
       → Sized (treeAt t true d at) w i c r
-  symbol-bad len b e′ f h k = to (refused badSymbol at) (step (Symbol len) e′ ∙ rw (← f, h) refl) (k .0, lit< tt, k .1)
-
-  pub symbol-good : (len : ℕ) (b : Bool) → x ≡ Symbol len → b ≡ isSymbol (payload t at len) → b ≡ true
-      → r ≡ record { number = 0; place = at + len; cost = len - 6; empty = 0; len = len - 6 } → Sized (treeAt t true d at) w i c r
   unfolding lay cost empties
-  symbol-good len b e′ f h k =
-      let a = symbol-in t at len x e e′ in
-      let s = payload-size t at len (a .0) (a .1) in
-      to (found (symbol (payload t at len)) (at + len)) (step (Symbol len) e′ ∙ rw (← f, h) refl) (rw (k, s) (refl, refl, refl, refl, refl))
+  at-symbol len e′ k =
+      let a = step-in t true d at s (step.Symbol len) e e′ in
+      to (step.Symbol len) e′ (rw (k, payload-size t at len (a .0) (a .1)) (refl, refl, refl, refl, refl))
 
-  pub at-integer : x ≡ Integer → ((v j k : ℕ) → Sized (ofRecord t true at false (refused tooDeep) Integer) v j k r) → Sized (treeAt t true d at) w i c r
-  at-integer e′ k = to (ofRecord t true at false (refused tooDeep) Integer) (step Integer e′) (k w i c)
-
-  pub binding-deep : (len : ℕ) → x ≡ Binding len → d ≡ 0 → (r .number ≡ tooDeep) × (r .place ≡ at) → Sized (treeAt t true d at) w i c r
-  binding-deep len e′ h k = to (refused tooDeep at) (step (Binding len) e′ ∙ rw h refl) (k .0, lit< tt, k .1)
-
-  pub list-deep : (n : ℕ) → x ≡ ListOf n → d ≡ 0 → (r .number ≡ tooDeep) × (r .place ≡ at) → Sized (treeAt t true d at) w i c r
-  list-deep n e′ h k = to (refused tooDeep at) (step (ListOf n) e′ ∙ rw h refl) (k .0, lit< tt, k .1)
-
-  binding-of : (len : ℕ) (b : Bool) → x ≡ Binding len → (d ≡ 0 → ⊥) → b ≡ isSymbol (payload t at len)
-      → treeAt t true d at ≡ cond b (andThen (treeAt t true (d - 1) (at + len)) (λ y q. found (binding (payload t at len) y) q)) (refused badSymbol at)
-  binding-of len b e′ h f = step (Binding len) e′ ∙ rw (lt-ltb 0 d (pos-of-ne-zero h), ← f) refl
-
-  pub binding-bad : (len : ℕ) (b : Bool) → x ≡ Binding len → (d ≡ 0 → ⊥) → b ≡ isSymbol (payload t at len) → b ≡ false
-      → (r .number ≡ badSymbol) × (r .place ≡ at) → Sized (treeAt t true d at) w i c r
-  binding-bad len b e′ h f g k = to (refused badSymbol at) (binding-of len b e′ h f ∙ rw g refl) (k .0, lit< tt, k .1)
-
-  binding-to : (len : ℕ) (b : Bool) → x ≡ Binding len → (d ≡ 0 → ⊥) → b ≡ isSymbol (payload t at len) → b ≡ true
-      → treeAt t true d at ≡ andThen (treeAt t true (d - 1) (at + len)) (λ y q. found (binding (payload t at len) y) q)
-  binding-to len b e′ h f g = binding-of len b e′ h f ∙ rw g refl
+  pub at-integer : (n : ℕ) (z : ℤ) → s ≡ step.Integer → n ≡ length (decimalOf z) → z ≡ wideIn t (at + 6)
+      → r ≡ record { number = 0; place = at + 22; cost = n; empty = 0; len = n } → Sized (treeAt t true d at) w i c r
+  unfolding lay cost empties
+  at-integer n z e′ en ez k =
+      to step.Integer e′ (rw (k, en, integer-value t at z (step-in t true d at s step.Integer e e′ .0) ez) (refl, refl, refl, refl, refl))
 
   -- m is what the tree below was measured as
-  pub binding-stop : (len : ℕ) (b : Bool) (m : Size) → x ≡ Binding len → (d ≡ 0 → ⊥) → b ≡ isSymbol (payload t at len) → b ≡ true
-      → Sized (treeAt t true (d - 1) (at + len)) w i (c + (len - 3)) m → 0 < m .number → (r .number ≡ m .number) × (r .place ≡ m .place)
-      → Sized (treeAt t true d at) w i c r
-  binding-stop len b m e′ h f g s l k =
-      to (andThen (treeAt t true (d - 1) (at + len)) (λ y q. found (binding (payload t at len) y) q)) (binding-to len b e′ h f g)
-      (by (treeAt t true (d - 1) (at + len)) s)
-    where
-      by : (y : Found Tree) → Sized y w i (c + (len - 3)) m → Sized (andThen y (λ z q. found (binding (payload t at len) z) q)) w i c r
-      by (found z q) u = absurd (omega (arith, u .0))
-      by (refused n a) u = (k .0 ∙ u .0, u .1, k .1 ∙ u .2)
+  pub binding-stop : (len : ℕ) (m : Size) → s ≡ step.Binding len → Sized (treeAt t true (d - 1) (at + len)) w i (c + (len - 3)) m → 0 < m .number
+      → (r .number ≡ m .number) × (r .place ≡ m .place) → Sized (treeAt t true d at) w i c r
+  binding-stop len m e′ u l k =
+      to (step.Binding len) e′ (rw (stop-of (treeAt t true (d - 1) (at + len)) w i (c + (len - 3)) m u l) (k .0, l, k .1))
 
-  pub binding-good : (len : ℕ) (b : Bool) (m : Size) → x ≡ Binding len → (d ≡ 0 → ⊥) → b ≡ isSymbol (payload t at len) → b ≡ true
-      → Sized (treeAt t true (d - 1) (at + len)) w i (c + (len - 3)) m → m .number ≤ 0
+  pub binding-good : (len : ℕ) (m : Size) → s ≡ step.Binding len → Sized (treeAt t true (d - 1) (at + len)) w i (c + (len - 3)) m → m .number ≤ 0
       → (r .number ≡ 0) × (r .place ≡ m .place) × (r .cost ≡ len - 3 + m .cost) × (r .empty ≡ m .empty) × (r .len ≡ len - 3 + m .len)
       → Sized (treeAt t true d at) w i c r
   unfolding lay cost empties
-  binding-good len b m e′ h f g s l k =
-      let y = got-tree t (d - 1) (at + len) w i (c + (len - 3)) m s l in
-      let a = read-in t at x (Binding len) e e′ in
-      let z = payload-size t at len (a .2) (a .3) in
+  binding-good len m e′ u l k =
+      let y = got-tree t (d - 1) (at + len) w i (c + (len - 3)) m u l in
+      let a = step-in t true d at s (step.Binding len) e e′ in
+      let z = payload-size t at len (a .0) (a .1) in
       let nm : List ℕ = payload t at len in
-      let v : length (named nm) ≡ len - 3 = named-size nm ∙ omega (arith, a .2) in
-      to (found (binding nm (y .tree)) (m .place)) (binding-to len b e′ h f g ∙ rw (y .is) refl) (
+      let v : length (named nm) ≡ len - 3 = named-size nm ∙ omega (arith, a .0) in
+      to (step.Binding len) e′ (rw (y .is) (
         k .0,
         k .1,
-        k .2 ∙ omega (arith, a .2, y .costs-it),
+        k .2 ∙ omega (arith, a .0, y .costs-it),
         k .3 ∙ y .empties-it,
         k .4 ∙ rw (length-append (named nm) (bytes (lay (y .tree) Wrap w i (c + length (named nm)))), v) (omega (arith, y .lays-it)),
-      )
+      ))
 
-  pub at-list : (n : ℕ) → x ≡ ListOf n → (d ≡ 0 → ⊥) → Sized (andThen (itemsAt (treeAt t true (d - 1)) n (at + 10)) (λ xs q. found (list xs) q)) w i c r
+  pub at-list : (n : ℕ) → s ≡ step.List n → Sized (andThen (itemsAt (treeAt t true (d - 1)) n (at + 10)) (λ xs q. found (list xs) q)) w i c r
       → Sized (treeAt t true d at) w i c r
-  at-list n e′ h s =
-      to (andThen (itemsAt (treeAt t true (d - 1)) n (at + 10)) (λ xs q. found (list xs) q)) (step (ListOf n) e′ ∙ rw (lt-ltb 0 d (pos-of-ne-zero h)) refl) s
+  at-list n e′ k = to (step.List n) e′ k
 
 -- the count of a list fits 4 bytes
-pub list-small : (t : List ℕ) (at n : ℕ) (x : Record) → Bytes t → x ≡ recordAt t at → x ≡ ListOf n → n < 4294967296
-list-small t at n x hb e e′ = let h = read-in t at x (ListOf n) e e′ in omega (arith, part-lt t (at + 6) 4 hb (omega arith), h .0)
+pub list-few : (t : List ℕ) (d at n : ℕ) (s : Step) → Bytes t → s ≡ stepAt t true at (ltb 0 d) → s ≡ step.List n → n < 4294967296
+list-few t d at n s hb e e′ =
+    let h = step-in t true d at s (step.List n) e e′ in omega (arith, part-lt t (at + 6) 4 hb (omega arith), h .2)
 
 -- ---- the items of a list: k of them are done, and p is past them
 
 pub record Walk (t : List ℕ) (at n d w i c p k cost′ empty len : ℕ) : Type 0 where
-  -- the items done, before those that are left
-  pub pre : Trees → Trees
-  pub whole : itemsAt (treeAt t true d) n at ≡ andThen (itemsAt (treeAt t true d) (n - k) p) (λ ys q. found (pre ys) q)
-  pub counted : (ys : Trees) → count (pre ys) ≡ k + count ys
-  pub costing : (ys : Trees) → n + 1 + costs (pre ys) ≡ cost′ + costs ys
-  pub emptied : (ys : Trees) → emptiesOf (pre ys) ≡ empty + emptiesOf ys
-  pub summed : (ys : Trees) → 4 * i + 3 + sums (pre ys) true w i c ≡ len + sums ys (eqb k 0) w i c
+  pub gone : Gone (treeAt t true d) n at k p
+  pub costing : (ys : Trees) → n + 1 + costs (gone .pre ys) ≡ cost′ + costs ys
+  pub emptied : (ys : Trees) → emptiesOf (gone .pre ys) ≡ empty + emptiesOf ys
+  pub summed : (ys : Trees) → 4 * i + 3 + sums (gone .pre ys) true w i c ≡ len + sums ys (eqb k 0) w i c
   pub from : at ≤ p
   pub within : p ≤ length t
-  pub few : k ≤ n
   pub lines : cost′ + empty ≤ n + 1 + 128 * (p - at)
   pub lays : len ≤ 4 * i + 3 + 128 * (p - at)
 
-all-of : (y : Found Trees) → y ≡ andThen y (λ ys q. found ys q)
-all-of (found xs q) = refl
-all-of (refused n a) = refl
-
 pub walk-begin : (t : List ℕ) (at n d w i c : ℕ) → at ≤ length t → Walk t at n d w i c at 0 (n + 1) 0 (4 * i + 3)
-walk-begin t at n d w i c h =
-    let z : n - 0 ≡ n = omega arith in
-    record {
-      pre = λ ys. ys;
-      whole = rw z (all-of (itemsAt (treeAt t true d) n at));
-      counted = λ ys. omega arith;
-      costing = λ ys. refl;
-      emptied = λ ys. omega arith;
-      summed = λ ys. refl;
-      from = omega arith;
-      within = h;
-      few = omega arith;
-      lines = omega arith;
-      lays = omega arith;
-    }
-
-one-more : (n k : ℕ) → k < n → n - k ≡ suc (n - (k + 1))
-one-more n k h = omega arith
-
-then-more : (x : Tree) (pre : Trees → Trees) (y : Found Trees)
-    → andThen (andThen y (λ xs r. found (more x xs) r)) (λ ys q. found (pre ys) q) ≡ andThen y (λ ys q. found (pre (more x ys)) q)
-then-more x pre (found xs q) = refl
-then-more x pre (refused n a) = refl
-
-items-more : (f : ℕ → Found Tree) (m p q : ℕ) (x : Tree) → f p ≡ found x q → itemsAt f (suc m) p ≡ andThen (itemsAt f m q) (λ xs r. found (more x xs) r)
-unfolding itemsAt
-items-more f m p q x e = rw e refl
+walk-begin t at n d w i c h = record {
+  gone = gone-begin (treeAt t true d) n at;
+  costing = λ ys. refl;
+  emptied = λ ys. omega arith;
+  summed = λ ys. refl;
+  from = omega arith;
+  within = h;
+  lines = omega arith;
+  lays = omega arith;
+}
 
 module _ (t : List ℕ) (at n d w i c p k cost′ empty len : ℕ) (g : Walk t at n d w i c p k cost′ empty len) (lt : k < n) where
   pub walk-item : (q a b l cost″ empty″ len″ : ℕ) → Bytes t → i + 1 + d ≤ depthLimit → Got t d p w (itemIndent (eqb k 0) i) (itemColumn (eqb k 0) c) q a b l
@@ -255,23 +177,17 @@ module _ (t : List ℕ) (at n d w i c p k cost′ empty len : ℕ) (g : Walk t a
       let x : Tree = y .tree in
       let z : eqb (k + 1) 0 ≡ false = ne-eqb (k + 1) 0 (λ (u : k + 1 ≡ 0). omega arith) in
       record {
-        pre = λ ys. g .pre (more x ys);
-        whole =
-            g .whole
-            ∙ ap (λ (v : Found Trees). andThen v (λ ys r. found (g .pre ys) r)) (ap (λ (j : ℕ). itemsAt (treeAt t true d) j p) (one-more n k lt) ∙ items-more (treeAt t true d) (n - (k + 1)) p q x (y .is))
-            ∙ then-more x (g .pre) (itemsAt (treeAt t true d) (n - (k + 1)) q);
-        counted = λ ys. g .counted (more x ys) ∙ omega arith;
+        gone = gone-item (treeAt t true d) n at k p (g .gone) q x lt (y .is);
         costing = λ ys. g .costing (more x ys) ∙ omega (arith, y .costs-it);
         emptied = λ ys. g .emptied (more x ys) ∙ omega (arith, y .empties-it);
         summed = λ ys. g .summed (more x ys) ∙ rw z (omega (arith, y .lays-it));
         from = omega (arith, g .from, s .past);
         within = s .within;
-        few = omega arith;
         lines = omega (arith, g .lines, g .from, s .lines, s .past);
         lays = omega (arith, g .lays, g .from, s .lays, s .past);
       }
 
-  pub walk-name : (q p″ cost″ empty″ len″ : ℕ) → Bytes t → i + 1 + d ≤ depthLimit → Named t p q → p < q → p″ ≡ q → cost″ ≡ cost′ + (q - p - 6) → empty″ ≡ empty
+  pub walk-name : (q p″ cost″ empty″ len″ : ℕ) → Bytes t → i + 1 + d ≤ depthLimit → q ≡ pastSymbol t p → p < q → p″ ≡ q → cost″ ≡ cost′ + (q - p - 6) → empty″ ≡ empty
       → len″ ≡ len + (q - p - 6) → Walk t at n d w i c p″ (k + 1) cost″ empty″ len″
   walk-name q p″ cost″ empty″ len″ hb hi f l ep ea eb el =
       let y = got-name t d p w (itemIndent (eqb k 0) i) (itemColumn (eqb k 0) c) q f l in
@@ -288,16 +204,8 @@ module _ (t : List ℕ) (at n d w i c p k cost′ empty len : ℕ) (g : Walk t a
   -- m is the refusal at p
   pub walk-stop : (j o : ℕ) (m r : Size) → Sized (treeAt t true d p) w j o m → 0 < m .number → (r .number ≡ m .number) × (r .place ≡ m .place)
       → Sized (andThen (itemsAt (treeAt t true d) n at) (λ xs q. found (list xs) q)) w i c r
-  unfolding itemsAt
-  walk-stop j o m r s l h = by (treeAt t true d p) refl s
-    where
-      by : (y : Found Tree) → treeAt t true d p ≡ y → Sized y w j o m
-          → Sized (andThen (itemsAt (treeAt t true d) n at) (λ xs q. found (list xs) q)) w i c r
-      by (found x q) e u = absurd (omega (arith, u .0))
-      by (refused b a) e u =
-          let f : itemsAt (treeAt t true d) (n - k) p ≡ refused b a = rw (one-more n k lt, e) refl in
-          let v : itemsAt (treeAt t true d) n at ≡ refused b a = g .whole ∙ rw f refl in
-          rw v (h .0 ∙ u .0, u .1, h .1 ∙ u .2)
+  walk-stop j o m r s l h =
+      rw (gone-stop (treeAt t true d) n at k p (g .gone) (m .number) (m .place) lt (stop-of (treeAt t true d p) w j o m s l)) (h .0, l, h .1)
 
 some-not-alone : (xs : Trees) → 0 < count xs → alone xs ≡ 0
 some-not-alone none h = absurd (omega arith)
@@ -305,14 +213,13 @@ some-not-alone (more x xs) h = refl
 
 module _ (t : List ℕ) (at n d w i c p k cost′ empty len : ℕ) (g : Walk t at n d w i c p k cost′ empty len) (le : n ≤ k) (some : 0 < n) where
   abbrev all : Trees
-  all = g .pre none
+  all = g .gone .pre none
 
   is-all : itemsAt (treeAt t true d) n at ≡ found all p
-  unfolding itemsAt
-  is-all = let z : n - k ≡ 0 = omega arith in g .whole ∙ rw z refl
+  is-all = gone-end (treeAt t true d) n at k p (g .gone) le
 
   all-count : count all ≡ n
-  all-count = g .counted none ∙ omega (arith, g .few)
+  all-count = g .gone .counted none ∙ omega (arith, g .gone .few)
 
   all-cost : cost′ ≡ cost (list all)
   unfolding cost
@@ -356,35 +263,18 @@ breaks-fit k i h l = omega (arith, breaks-lt k i h l)
 pub laid-fit : (b k i : ℕ) → b ≤ 8589934592 → k ≤ 4294967295 → i ≤ depthLimit → b + k * (4 * i + 5) < 2 ^ 64
 laid-fit b k i hb h l = omega (arith, breaks-lt k i h l)
 
--- ---- trees up to the table's end: n bytes are those of the trees before p, and k is fuel enough
+-- ---- trees up to the table's end: n bytes are those of the trees before p
 
 pub record Paged (t : List ℕ) (w p n : ℕ) : Type 0 where
-  pub k : ℕ
-  pub enough : length t < k + p
-  -- the trees done, before those that are left
-  pub pre : Trees → Trees
-  pub whole : tableOf true t ≡ andThen (treesAt t true k p) (λ ys q. found (pre ys) q)
-  pub paged : (ys : Trees) → length (page (pre ys) w) ≡ n + length (pageFrom (ltb 0 p) ys w)
-  pub within : p ≤ length t
-  pub limit : length t ≤ tableLimit
+  pub read : Read t true p
+  pub paged : (ys : Trees) → length (page (read .pre ys) w) ≡ n + length (pageFrom (ltb 0 p) ys w)
   pub size : n ≤ 128 * p
 
-pub too-long : (t : List ℕ) (w : ℕ) → tableLimit < length t → Summed (tableOf true t) w (Refused (record { number = tooLong; place = tableLimit }))
-unfolding tableOf
-too-long t w h = rw (lt-ltb tableLimit (length t) h) (refl, refl)
+pub paged-long : (t : List ℕ) (w : ℕ) → tableLimit < length t → Summed (tableOf true t) w (Refused (record { number = tooLong; place = tableLimit }))
+paged-long t w h = rw (too-long t true h) (refl, refl)
 
 pub paged-begin : (t : List ℕ) (w : ℕ) → length t ≤ tableLimit → Paged t w 0 0
-unfolding tableOf
-paged-begin t w h = record {
-  k = length t + 1;
-  enough = omega arith;
-  pre = λ ys. ys;
-  whole = rw (le-ltb tableLimit (length t) h) (all-of (treesAt t true (length t + 1) 0));
-  paged = λ ys. omega arith;
-  within = omega arith;
-  limit = h;
-  size = omega arith;
-}
+paged-begin t w h = record { read = read-begin t true h; paged = λ ys. omega arith; size = omega arith }
 
 -- the LF between two trees
 abbrev lead : ℕ → List ℕ
@@ -411,66 +301,30 @@ more-size later x xs w =
     let b = length-append l r in
     omega arith
 
-trees-more : (t : List ℕ) (k p q : ℕ) (x : Tree) → p < length t → treeAt t true depthLimit p ≡ found x q
-    → treesAt t true (suc k) p ≡ andThen (treesAt t true k q) (λ xs r. found (more x xs) r)
-unfolding treesAt
-trees-more t k p q x h e = rw (lt-ltb p (length t) h, e) refl
-
 module _ (t : List ℕ) (w p n : ℕ) (g : Paged t w p n) where
   -- n′ counts the LF before the tree
   pub paged-tree : (n′ : ℕ) (m : Size) → Bytes t → p < length t → Sized (treeAt t true depthLimit p) w 0 0 m → m .number ≤ 0 → n′ ≡ n + length (lead p)
       → (p < m .place) × Paged t w (m .place) (n′ + m .len + 1)
-  paged-tree n′ m hb h s l en = by (g .k) (g .enough) (g .whole)
-    where
-      y : Got t depthLimit p w 0 0 (m .place) (m .cost) (m .empty) (m .len)
-      y = got-tree t depthLimit p w 0 0 m s l
-
-      v : Small t p (m .place) (m .cost) (m .empty) (m .len)
-      v = small t depthLimit p w 0 0 (m .place) (m .cost) (m .empty) (m .len) hb (g .within) (omega arith) y
-
-      by : (k : ℕ) → length t < k + p → tableOf true t ≡ andThen (treesAt t true k p) (λ ys q. found (g .pre ys) q)
-          → (p < m .place) × Paged t w (m .place) (n′ + m .len + 1)
-      by zero f e = absurd (omega arith)
-      by (suc k) f e = (
-        v .past,
+  paged-tree n′ m hb h s l en =
+      let y = got-tree t depthLimit p w 0 0 m s l in
+      let v = small t depthLimit p w 0 0 (m .place) (m .cost) (m .empty) (m .len) hb (g .read .within) (omega arith) y in
+      let o = read-tree t true p (g .read) (m .place) (y .tree) h (y .is) in (
+        o .past,
         record {
-          k = k;
-          enough = omega (arith, v .past);
-          pre = λ ys. g .pre (more (y .tree) ys);
-          whole =
-              e
-              ∙ ap (λ (u : Found Trees). andThen u (λ ys r. found (g .pre ys) r)) (trees-more t k p (m .place) (y .tree) h (y .is))
-              ∙ then-more (y .tree) (g .pre) (treesAt t true k (m .place));
+          read = o .rest;
           paged =
               λ ys.
-              g .paged (more (y .tree) ys)
-              ∙ rw (lt-ltb 0 (m .place) (omega (arith, v .past))) (omega (arith, more-size (ltb 0 p) (y .tree) ys w, y .lays-it));
-          within = v .within;
-          limit = g .limit;
+              ap (λ (xs : Trees). length (page xs w)) (o .pre-is ys) ∙ g .paged (more (y .tree) ys)
+              ∙ rw (lt-ltb 0 (m .place) (omega (arith, o .past))) (omega (arith, more-size (ltb 0 p) (y .tree) ys w, y .lays-it));
           size = omega (arith, g .size, lead-le (ltb 0 p), v .lays, v .past);
         },
       )
 
   pub paged-stop : (m : Size) → p < length t → Sized (treeAt t true depthLimit p) w 0 0 m → 0 < m .number
       → Summed (tableOf true t) w (Refused (record { number = m .number; place = m .place }))
-  unfolding treesAt
-  paged-stop m h s l = by (g .k) (g .enough) (g .whole) (treeAt t true depthLimit p) refl s
-    where
-      by : (k : ℕ) → length t < k + p → tableOf true t ≡ andThen (treesAt t true k p) (λ ys q. found (g .pre ys) q) → (y : Found Tree) → treeAt t true depthLimit p ≡ y
-          → Sized y w 0 0 m → Summed (tableOf true t) w (Refused (record { number = m .number; place = m .place }))
-      by zero f e y ey u = absurd (omega arith)
-      by (suc k) f e (found x q) ey u = absurd (omega (arith, u .0))
-      by (suc k) f e (refused b a) ey u =
-          let z : tableOf true t ≡ refused b a = e ∙ rw (lt-ltb p (length t) h, ey) refl in
-          rw z (u .0, u .2)
+  paged-stop m h s l =
+      rw (read-stop t true p (g .read) (m .number) (m .place) h (stop-of (treeAt t true depthLimit p) w 0 0 m s l)) (refl, refl)
 
   pub paged-end : length t ≤ p → Summed (tableOf true t) w (Text n)
-  unfolding treesAt pageFrom
-  paged-end h = rw (by (g .k) (g .whole)) (sym (g .paged none ∙ size))
-    where
-      by : (k : ℕ) → tableOf true t ≡ andThen (treesAt t true k p) (λ ys q. found (g .pre ys) q) → tableOf true t ≡ found (g .pre none) p
-      by zero e = e
-      by (suc k) e = e ∙ rw (le-ltb p (length t) h) refl
-
-      size : n + length (pageFrom (ltb 0 p) none w) ≡ n
-      size = omega arith
+  unfolding pageFrom
+  paged-end h = rw (read-end t true p (g .read) h) (sym (g .paged none ∙ omega arith))

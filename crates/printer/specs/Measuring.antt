@@ -1,12 +1,9 @@
 -- What the walk that checks a table and measures it answers: a refusal, or the cost of a tree and the bytes that it takes.
-use Prim.Native.Nat.{ℕ, _+_, _-_, _<_}
+use Prim.Native.Nat.{ℕ, _+_, _<_}
 use mathlib.Core.Path.{_≡_}
 use mathlib.Core.Bool.{Bool, true, false}
-use mathlib.Core.List.{List}
 use lib.ListN.{length}
-use Rattle.table.specs.Trees.{Tree, Trees, symbol, integer, binding, list, none, more, isSymbol}
-use Rattle.table.specs.declared.Record.the-variants.{Symbol}
-use Rattle.table.specs.Records.{recordAt, payload}
+use Rattle.table.specs.Trees.{Tree, Trees, symbol, integer, binding, list, none, more}
 use Rattle.table.specs.Decoding.{Found, found, refused}
 use Rattle.printer.specs.Layout.{Wrap, bytes, lay, inner, cost, page}
 use Rattle.printer.specs.declared.measure.Size.{Size}
@@ -41,10 +38,6 @@ Summed (found xs q) w (Bytes n) = n ≡ length (page xs w)
 Summed (found xs q) w (Refused r) = ⊥
 Summed (refused n a) w (Bytes k) = ⊥
 Summed (refused n a) w (Refused r) = (r .number ≡ n) × (r .place ≡ a)
-
--- past the place at, r is the end of a good symbol's record
-abbrev pub Named : List ℕ → ℕ → ℕ → Type 0
-Named t at r = at < r → (recordAt t at ≡ Symbol (r - at)) × (isSymbol (payload t at (r - at)) ≡ true)
 
 -- the indent and the column of an item, the first or a later one, of a list that is wrapped at indent i and column c
 abbrev pub itemIndent : Bool → ℕ → ℕ

@@ -1,16 +1,14 @@
 // The check of a table and its measure in one walk, before a byte is written: what each tree costs, and the bytes that it takes.
 use refusals::Refusal;
-use table::Record;
+use table::Step;
 ghost use mathlib.Core.Path.{_≡_};
-ghost use mathlib.Core.Bool.{true, false};
-ghost use Prim.Native.Nat.{ℕ, _+_, _≤_, _<_};
+ghost use mathlib.Core.Bool.{true};
+ghost use Prim.Native.Nat.{_+_, _≤_, _<_};
 ghost use lib.ListN.{length};
-ghost use Rattle.refusals.specs.Numbers.{tableLimit, depthLimit, tooDeep};
-ghost use Rattle.table.specs.Trees.{isSymbol, list};
-ghost use Rattle.table.specs.declared.Record.the-variants.{Integer};
-ghost use Rattle.table.specs.Records.{payload};
-ghost use Rattle.table.specs.Decoding.{treeAt, itemsAt, andThen, found, refused, ofRecord, tableOf};
-ghost use Rattle.printer.specs.Measuring.{Named, Sized, Summed, itemIndent, itemColumn};
+ghost use Rattle.refusals.specs.Numbers.{tableLimit, depthLimit};
+ghost use Rattle.table.specs.Trees.{list};
+ghost use Rattle.table.specs.Decoding.{treeAt, itemsAt, andThen, found, tableOf};
+ghost use Rattle.printer.specs.Measuring.{Sized, Summed, itemIndent, itemColumn};
 
 pub struct Size {
     // A refusal's number, or 0.
@@ -54,47 +52,6 @@ fn atom(place: usize, n: usize) -> Size
     }
 }
 
-// The payload of the record of `len` bytes at `at` is a symbol.
-fn is_name(t: &[u8], at: usize, len: usize) -> bool
-    requires { ⌜ (6 ≤ len) × (at + len ≤ length (now t)) ⌝ }
-    ensures { λ r. ⌜ r ≡ isSymbol (payload (now (t .entry)) at len) ⌝ }
-{
-    let start = at + 6;
-    let end = at + len;
-    table::is_symbol(&t[start..end])
-}
-
-// The place past the good symbol at `at`, or `at`.
-fn past_name(t: &[u8], at: usize) -> usize
-    ensures { λ r. ⌜ Named (now (t .entry)) at r ⌝ }
-{
-    let node = table::record_at(t, at);
-    match node {
-        Record::Symbol(len) => {
-            if is_name(t, at, len) {
-                return at + len;
-            }
-            at
-        }
-        Record::Bad => at,
-        Record::Integer => at,
-        Record::Binding(_) => at,
-        Record::List(_) => at,
-    }
-}
-
-// Only the lowest integer is refused.
-fn measure_integer(t: &[u8], at: usize) -> Size
-    requires { ⌜ at + 22 ≤ length (now t) ⌝ }
-    ensures { λ r. ⌜ ((w i c : ℕ) → Sized (ofRecord (now (t .entry)) true at false (refused tooDeep) Integer) w i c r) ⌝ }
-{
-    let w = wide::wide_at(t, at + 6);
-    if (w.hi == i64::MIN) & (w.lo == 0) {
-        return stopped(refusals::LOWEST, at);
-    }
-    atom(at + 22, wide::decimal_len(w))
-}
-
 // The indent and the column of an item of a list that is wrapped: only the first stays on its line.
 fn inner(first: bool, indent: usize) -> usize
     requires { ⌜ indent ≤ depthLimit ⌝ }
@@ -116,7 +73,7 @@ fn begins(first: bool, column: usize) -> usize
     0
 }
 
-// The tree at `at`, with `depth` lists and bindings still to be opened; in a record 15, 13, 16, 17.
+// The tree at `at`, with `depth` lists and bindings still to be opened.
 fn measure_tree(
     t: &[u8],
     at: usize,
@@ -128,42 +85,26 @@ fn measure_tree(
     requires { ⌜ (at ≤ length (now t)) × (length (now t) ≤ tableLimit) × (indent + depth ≤ depthLimit) × (column ≤ at) ⌝ }
     ensures { λ r. ⌜ Sized (treeAt (now (t .entry)) true depth at) width indent column r ⌝ }
 {
-    let node = table::record_at(t, at);
-    match node {
-        Record::Bad => stopped(refusals::BAD_RECORD, at),
-        Record::Symbol(len) => {
-            if is_name(t, at, len) {
-                return atom(at + len, len - 6);
+    let step = table::step_at(t, at, 0 < depth, true);
+    match step {
+        Step::Fault(number) => stopped(number, at),
+        Step::Symbol(len) => atom(at + len, len - 6),
+        Step::Integer => atom(at + 22, wide::decimal_len(wide::wide_at(t, at + 6))),
+        Step::Binding(len) => {
+            let n = len - 3;
+            let m = measure_tree(t, at + len, depth - 1, width, indent, column + n);
+            if 0 < m.number {
+                return stopped(m.number, m.place);
             }
-            stopped(refusals::BAD_SYMBOL, at)
+            Size {
+                number: 0,
+                place: m.place,
+                cost: n + m.cost,
+                empty: m.empty,
+                len: n + m.len,
+            }
         }
-        Record::Integer => measure_integer(t, at),
-        Record::Binding(len) => {
-            if depth == 0 {
-                return stopped(refusals::TOO_DEEP, at);
-            }
-            if is_name(t, at, len) {
-                let n = len - 3;
-                let m = measure_tree(t, at + len, depth - 1, width, indent, column + n);
-                if 0 < m.number {
-                    return stopped(m.number, m.place);
-                }
-                return Size {
-                    number: 0,
-                    place: m.place,
-                    cost: n + m.cost,
-                    empty: m.empty,
-                    len: n + m.len,
-                };
-            }
-            stopped(refusals::BAD_SYMBOL, at)
-        }
-        Record::List(n) => {
-            if depth == 0 {
-                return stopped(refusals::TOO_DEEP, at);
-            }
-            measure_list(t, at + 10, n, depth - 1, width, indent, column)
-        }
+        Step::List(n) => measure_list(t, at + 10, n, depth - 1, width, indent, column),
     }
 }
 
@@ -195,7 +136,7 @@ fn measure_list(
     let mut empty = 0;
     let mut len = 4 * indent + 3;
     while i < n {
-        let q = past_name(t, p);
+        let q = table::past_symbol(t, p);
         if p < q {
             let k = q - p - 6;
             cost = cost + k;

@@ -9,7 +9,7 @@ use Rattle.classes.specs.Classes.{classOf}
 use Rattle.table.specs.Trees.{Trees, symbol, integer, binding, list, none, more, runsOn, isSymbol, record-of, records, recordsOf}
 use Rattle.table.specs.Records.{recordAt}
 use Rattle.table.specs.Printable.{lowestInteger}
-use Rattle.table.specs.Decoding.{found, refused, itemsAt, treeAt, treesAt, tableOf}
+use Rattle.table.specs.Decoding.{found, refused, itemsAt, stepAt, treeAt, treesAt, tableOf}
 
 -- `x @ (a)`
 abbrev pub tree : Trees
@@ -20,13 +20,13 @@ bytes =
     7 ∷ 0 ∷ 0 ∷ 0 ∷ 3 ∷ 0 ∷ 120 ∷ 10 ∷ 0 ∷ 0 ∷ 0 ∷ 4 ∷ 0 ∷ 1 ∷ 0 ∷ 0 ∷ 0 ∷ 7 ∷ 0 ∷ 0 ∷ 0 ∷ 1 ∷ 0 ∷ 97 ∷ []
 
 pub worked : (recordsOf tree ≡ bytes) × (tableOf true bytes ≡ found tree 24)
-unfolding le number classOf runsOn isSymbol record-of records recordAt itemsAt treeAt treesAt tableOf
+unfolding le number classOf runsOn isSymbol record-of records recordAt stepAt itemsAt treeAt treesAt tableOf
 worked = (refl, refl)
 
 -- the item of the list is missing; a record cut by the end; an empty symbol
 pub refused-tables : (tableOf false (take 17 bytes) ≡ refused 15 17) × (tableOf false (take 6 bytes) ≡ refused 15 0)
     × (tableOf false (6 ∷ 0 ∷ 0 ∷ 0 ∷ 1 ∷ 0 ∷ []) ≡ refused 16 0)
-unfolding le number classOf runsOn isSymbol record-of records recordAt itemsAt treeAt treesAt tableOf
+unfolding le number classOf runsOn isSymbol record-of records recordAt stepAt itemsAt treeAt treesAt tableOf
 refused-tables = (refl, refl, refl)
 
 -- -2^127 is a good integer, and refused at printing
@@ -34,5 +34,5 @@ abbrev lowest-record : List ℕ
 lowest-record = 22 ∷ 0 ∷ 0 ∷ 0 ∷ 2 ∷ 0 ∷ (replicate 15 0 ++ (128 ∷ []))
 
 pub lowest-tables : (tableOf true lowest-record ≡ refused 17 0) × (tableOf false lowest-record ≡ found (more (integer lowestInteger) none) 22)
-unfolding le number classOf runsOn isSymbol record-of records recordAt itemsAt treeAt treesAt tableOf
+unfolding le number classOf runsOn isSymbol record-of records recordAt stepAt itemsAt treeAt treesAt tableOf
 lowest-tables = (refl, refl)

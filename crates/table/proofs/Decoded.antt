@@ -1,23 +1,22 @@
 -- What is found in a table is a good tree, and its records stand there. Assumes that the table's elements are bytes.
 use mathlib.Core.Path.{_≡_, refl, ap, sym, subst, _∙_}
-use mathlib.Core.Bool.{Bool, true, false, _&&_}
+use mathlib.Core.Bool.{Bool, true}
 use mathlib.Core.List.{List, _++_}
 use Prim.Native.Nat.{ℕ, zero, suc, _+_, _-_, _^_, _≤_, _<_}
 use native.Mathlib.Omega.{arith}
 use lib.ListN.{length, take, drop, length-append}
 use mir.Syntax.{w128}
 use mir.Val.{toZ}
-use Rattle.refusals.specs.Numbers.{tooDeep}
-use Rattle.lists.proofs.Choice.{pick, true-false}
-use Rattle.wide.specs.Bytes.{le, number, numberAt, wideBytes}
+use Rattle.wide.specs.Bytes.{le, numberAt, wideBytes}
 use Rattle.wide.proofs.Numbers.{Bytes, bytes-part, le-length, le-number-of, number-lt, wide-length, bytes-back}
-use Rattle.table.specs.Trees.{Tree, Trees, binding, list, more, count, isSymbol, Good, Goods, record-of, records, recordsOf}
-use Rattle.table.specs.Records.{Record, Symbol, Integer, Binding, ListOf, Bad, recordAt, payload}
-use Rattle.table.specs.Decoding.{Found, found, refused, andThen, itemsAt, isLowest, ofRecord, treeAt}
+use Rattle.table.specs.Trees.{Tree, Trees, binding, list, more, count, Good, Goods, record-of, records, recordsOf}
+use Rattle.table.specs.Records.{payload}
+use Rattle.table.specs.Decoding.{Found, found, refused, andThen, itemsAt, Step, ofStep, treeAt}
+use Rattle.table.specs.declared.Step.the-variants as step
 use Rattle.table.specs.Printable.{Printable, Printables}
 use Rattle.table.proofs.Integers.{range-bits, not-lowest}
 use Rattle.table.proofs.Stands.{Stands, stands-join, stands-none, stands-length, stands-part, part-size}
-use Rattle.table.proofs.Reading.{RecordAt, record-in}
+use Rattle.table.proofs.Reading.{StepIn, by-steps}
 use Rattle.table.proofs.Heads.{length-record}
 
 -- the bytes of a part are those of its number
@@ -83,75 +82,58 @@ module _ (t : List ℕ) (p len : ℕ) (hb : Bytes t) (e : len ≡ numberAt 4 t p
   named-small : length (payload t p len) + 6 < 2 ^ 32
   named-small = rw (part-size t (p + 6) (len - 6) (omega arith)) (omega (arith, part-lt t p 4 hb (omega arith)))
 
-record-hold : (t : List ℕ) (w : Bool) (d p : ℕ) (o : Bool) (f : ℕ → Found Tree) → Bytes t → p ≤ length t → (o ≡ true → 0 < d)
-    → (o ≡ true → (q : ℕ) → q ≤ length t → Holds t w (d - 1) q (f q))
-    → (o ≡ true → (n q : ℕ) → q ≤ length t → HoldAll t w (d - 1) n q (itemsAt f n q))
-    → (x : Record) → RecordAt t p x → Holds t w d p (ofRecord t w p o f x)
+step-hold : (t : List ℕ) → Bytes t → (w : Bool) (d p : ℕ) → (0 < d → (q : ℕ) → q ≤ length t → Holds t w (d - 1) q (treeAt t w (d - 1) q))
+    → (s : Step) → StepIn t w d p s → p ≤ length t → Holds t w d p (ofStep t p (treeAt t w (d - 1)) s)
 unfolding records Good Printable
-record-hold t w d p o f hb hp ho hf hs Bad hx = tt
-record-hold t w d p o f hb hp ho hf hs (Symbol len) hx =
-    pick (Holds t w d p) (isSymbol (payload t p len))
-    (λ e. (
-      record-stands t p 1 len hb (omega arith) (hx .2) (sym (hx .0)) (hx .1),
-      sym (ap (λ (k : ℕ). p + k) (named-size t p len hb (hx .0) (hx .2) (hx .3) hp 1)),
-      (e, named-small t p len hb (hx .0) (hx .2) (hx .3) hp),
-      (λ _. tt),
-    )) (λ _. tt)
-record-hold t w d p o f hb hp ho hf hs Integer hx =
-    pick (Holds t w d p) (w && isLowest t p) (λ _. tt)
-    (λ e.
+step-hold t hb w d p hf (step.Fault n) hx hp = tt
+step-hold t hb w d p hf (step.Symbol len) hx hp = (
+  record-stands t p 1 len hb (omega arith) (hx .0) (sym (hx .3)) (hx .4),
+  sym (ap (λ (k : ℕ). p + k) (named-size t p len hb (hx .3) (hx .0) (hx .1) hp 1)),
+  (hx .2, named-small t p len hb (hx .3) (hx .0) (hx .1) hp),
+  (λ _. tt),
+)
+step-hold t hb w d p hf step.Integer hx hp =
     let n : ℕ = numberAt 16 t (p + 6) in
     let bits : n < 2 ^ 128 = part-lt t (p + 6) 16 hb (omega arith) in
     let same : payload t p 22 ≡ wideBytes (toZ w128 n) =
     sym (bytes-back (payload t p 22) (bytes-part t hb 16 (p + 6) (omega arith)) (part-size t (p + 6) 16 (omega arith))) in (
-      subst (λ (bs : List ℕ). Stands t p (record-of 2 bs)) same (record-stands t p 2 22 hb (omega arith) (omega arith) (hx .0) (hx .1)),
+      subst (λ (bs : List ℕ). Stands t p (record-of 2 bs)) same (record-stands t p 2 22 hb (omega arith) (omega arith) (hx .2) (hx .3)),
       rw (length-record 2 (wideBytes (toZ w128 n)), wide-length (toZ w128 n)) refl,
       range-bits n bits,
-      not-lowest w n bits e,
-    ))
-record-hold t w d p true f hb hp ho hf hs (Binding len) hx =
-    pick (Holds t w d p) (isSymbol (payload t p len)) (λ e. sub (f (p + len)) e (hf refl (p + len) (omega arith))) (λ _. tt)
+      not-lowest w n bits (hx .1),
+    )
+step-hold t hb w d p hf (step.Binding len) hx hp = sub (treeAt t w (d - 1) (p + len)) (hf (hx .2) (p + len) (omega arith))
   where
     size : length (record-of 3 (payload t p len)) ≡ len
-    size = named-size t p len hb (hx .0) (hx .2) (hx .3) hp 3
+    size = named-size t p len hb (hx .4) (hx .0) (hx .1) hp 3
 
-    sub : (y : Found Tree) → isSymbol (payload t p len) ≡ true → Holds t w (d - 1) (p + len) y
-        → Holds t w d p (andThen y (λ x q. found (binding (payload t p len) x) q))
-    sub (refused n a) e h = tt
-    sub (found x q) e h = (
-      stands-join t p (record-of 3 (payload t p len)) (records x) (record-stands t p 3 len hb (omega arith) (hx .2) (sym (hx .0)) (hx .1))
+    sub : (y : Found Tree) → Holds t w (d - 1) (p + len) y → Holds t w d p (andThen y (λ x q. found (binding (payload t p len) x) q))
+    sub (refused n a) h = tt
+    sub (found x q) h = (
+      stands-join t p (record-of 3 (payload t p len)) (records x) (record-stands t p 3 len hb (omega arith) (hx .0) (sym (hx .4)) (hx .5))
           (subst (λ (k : ℕ). Stands t (p + k) (records x)) (sym size) (h .0)),
       h .1 ∙ simp length-append (omega (arith, size)),
-      (ho refl, e, named-small t p len hb (hx .0) (hx .2) (hx .3) hp, h .2),
+      (hx .2, hx .3, named-small t p len hb (hx .4) (hx .0) (hx .1) hp, h .2),
       h .3,
     )
-record-hold t w d p false f hb hp ho hf hs (Binding len) hx = tt
-record-hold t w d p true f hb hp ho hf hs (ListOf n) hx = sub (itemsAt f n (p + 10)) (hs refl n (p + 10) (omega arith))
+step-hold t hb w d p hf (step.List n) hx hp =
+    sub (itemsAt (treeAt t w (d - 1)) n (p + 10)) (items-hold t w (d - 1) (hf (hx .1)) n (p + 10) (omega arith))
   where
     four : payload t p 10 ≡ le 4 n
-    four = sym (ap (le 4) (hx .0) ∙ part-is t (p + 6) 4 hb (omega arith))
+    four = sym (ap (le 4) (hx .2) ∙ part-is t (p + 6) 4 hb (omega arith))
 
     sub : (y : Found Trees) → HoldAll t w (d - 1) n (p + 10) y → Holds t w d p (andThen y (λ xs q. found (list xs) q))
     sub (refused k a) h = tt
     sub (found xs q) h =
         let s : Stands t p (record-of 4 (le 4 (count xs))) =
         subst (λ (k : ℕ). Stands t p (record-of 4 (le 4 k))) (sym (h .4))
-        (subst (λ (bs : List ℕ). Stands t p (record-of 4 bs)) four (record-stands t p 4 10 hb (omega arith) (omega arith) (hx .1) (hx .2))) in
+        (subst (λ (bs : List ℕ). Stands t p (record-of 4 bs)) four (record-stands t p 4 10 hb (omega arith) (omega arith) (hx .3) (hx .4))) in
         let z : length (record-of 4 (le 4 (count xs))) ≡ 10 = rw (length-record 4 (le 4 (count xs)), le-length 4 (count xs)) refl in (
           stands-join t p (record-of 4 (le 4 (count xs))) (recordsOf xs) s (subst (λ (k : ℕ). Stands t (p + k) (recordsOf xs)) (sym z) (h .0)),
           h .1 ∙ simp length-append (omega (arith, z)),
-          (ho refl, subst (λ (k : ℕ). k < 2 ^ 32) (sym (hx .0) ∙ sym (h .4)) (part-lt t (p + 6) 4 hb (omega arith)), h .2),
+          (hx .1, subst (λ (k : ℕ). k < 2 ^ 32) (sym (hx .2) ∙ sym (h .4)) (part-lt t (p + 6) 4 hb (omega arith)), h .2),
           h .3,
         )
-record-hold t w d p false f hb hp ho hf hs (ListOf n) hx = tt
 
 pub tree-holds : (t : List ℕ) → Bytes t → (w : Bool) (d p : ℕ) → p ≤ length t → Holds t w d p (treeAt t w d p)
-unfolding treeAt
-tree-holds t hb w zero p hp =
-    record-hold t w 0 p false (refused tooDeep) hb hp (λ e. true-false (sym e)) (λ e q hq. tt) (λ e. true-false (sym e)) (recordAt t p) (record-in t p)
-tree-holds t hb w (suc d) p hp =
-    let k : suc d - 1 ≡ d = omega arith in
-    record-hold t w (suc d) p true (treeAt t w d) hb hp (λ e. omega arith)
-    (λ e. subst (λ (j : ℕ). (q : ℕ) → q ≤ length t → Holds t w j q (treeAt t w d q)) (sym k) (tree-holds t hb w d))
-    (λ e. subst (λ (j : ℕ). (n q : ℕ) → q ≤ length t → HoldAll t w j n q (itemsAt (treeAt t w d) n q)) (sym k) (items-hold t w d (tree-holds t hb w d)))
-    (recordAt t p) (record-in t p)
+tree-holds t hb w = by-steps t w (λ d p y. p ≤ length t → Holds t w d p y) (step-hold t hb w)

@@ -41,20 +41,20 @@ mutual
   tree-is (symbol n) t w d p g ok hp s =
       let h = head t p 1 n hp (lit< tt) (g .1) s in
       tree-of t w d p (Symbol (length n + 6)) (symbol-read t p n h)
-      ∙ rw (name-read t p 1 n h, g .0, length-record 1 n) refl
+      ∙ rw (name-read t p 1 n h, g .0, name-read t p 1 n h, length-record 1 n) refl
   tree-is (integer z) t w d p g ok hp s =
       let h = integer-head t p z hp s in
       let n : numberAt 16 t (p + 6) ≡ ofZ w128 z =
       bits-read z t p h ∙ number-le 16 (ofZ w128 z) ((ofZ-fits w128 z (fits-range z g)) .fits) in
       tree-of t w d p Integer (integer-read t p (wideBytes z) (wide-length z) h)
-      ∙ rw (n, spared w z g ok, toZ-ofZ w128 z (fits-range z g), length-record 2 (wideBytes z), wide-length z) refl
+      ∙ rw (n, spared w z g ok, n, toZ-ofZ w128 z (fits-range z g), length-record 2 (wideBytes z), wide-length z) refl
   tree-is (binding n x) t w d p g ok hp s =
       let a = stands-left t p (record-of 3 n) (records x) s in
       let h = head t p 3 n hp (lit< tt) (g .2) a in
       let b : Stands t (p + (length n + 6)) (records x) =
       subst (λ (k : ℕ). Stands t (p + k) (records x)) (length-record 3 n) (stands-right t p (record-of 3 n) (records x) s) in
       tree-of t w d p (Binding (length n + 6)) (binding-read t p n h)
-      ∙ rw (name-read t p 3 n h, g .1, lt-ltb 0 d (g .0), tree-is x t w (d - 1) (p + (length n + 6)) (g .3) ok (omega (arith, h .room)) b)
+      ∙ rw (lt-ltb 0 d (g .0), name-read t p 3 n h, g .1, name-read t p 3 n h, tree-is x t w (d - 1) (p + (length n + 6)) (g .3) ok (omega (arith, h .room)) b)
       (ap (found (binding n x)) (past-record 3 p n (records x)))
   tree-is (list xs) t w d p g ok hp s =
       let c : List ℕ = le 4 (count xs) in

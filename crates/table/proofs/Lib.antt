@@ -6,7 +6,9 @@ pub mod Names
 pub mod Heads
 pub mod Encoded
 pub mod Decoded
+pub mod Steps
 pub mod Checking
 pub mod Answers
 pub mod Whole
 pub mod Cases
+pub mod Deeper

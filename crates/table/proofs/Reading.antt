@@ -1,18 +1,19 @@
 -- What a record that was read says of the table's bytes, and where a tree ends. Assumes nothing.
-use mathlib.Core.Path.{_≡_, refl, ap, sym, subst, _∙_}
+use mathlib.Core.Path.{_≡_, refl, ap, sym, subst, subst⁻¹, _∙_}
 use mathlib.Core.Bool.{Bool, true, false, _&&_}
 use mathlib.Core.List.{List}
-use Prim.Native.Nat.{ℕ, zero, suc, _+_, _-_, _≤_}
+use Prim.Native.Nat.{ℕ, zero, suc, _+_, _-_, _≤_, _<_}
 use native.Mathlib.Omega.{arith}
 use lib.ListN.{length}
-use lib.Dec.{ltb, eqb}
-use borrow.Author.Tests.{lt-ltb, ltb-false, eqb-true}
+use lib.Dec.{ltb, eqb, lit<}
+use borrow.Author.Tests.{lt-ltb, ltb-true, ltb-false, eqb-true}
 use Rattle.refusals.specs.Numbers.{tooDeep}
 use Rattle.lists.proofs.Choice.{pick}
 use Rattle.wide.specs.Bytes.{numberAt}
 use Rattle.table.specs.Trees.{Tree, Trees, binding, list, more, isSymbol}
 use Rattle.table.specs.Records.{Record, Symbol, Integer, Binding, ListOf, Bad, recordOf, recordAt, payload}
-use Rattle.table.specs.Decoding.{Found, found, refused, andThen, itemsAt, isLowest, ofRecord, treeAt}
+use Rattle.table.specs.Decoding.{Found, found, refused, andThen, itemsAt, isLowest, Step, stepOf, stepAt, ofStep, treeAt}
+use Rattle.table.specs.declared.Step.the-variants as step
 
 -- what each record says of the bytes left, its length, its kind and its item count
 abbrev pub RecordIn : ℕ → ℕ → ℕ → ℕ → Record → Type 0
@@ -85,41 +86,72 @@ end-map : {A B : Type 0} (g : A → B) (p p′ lim : ℕ) → p ≤ p′ → (y 
 end-map g p p′ lim h (found x q) hy = (omega arith, hy .1)
 end-map g p p′ lim h (refused n a) hy = tt
 
-record-end : (t : List ℕ) (w : Bool) (at : ℕ) (o : Bool) (f : ℕ → Found Tree) → at ≤ length t → Ending (length t) f
-    → (x : Record) → RecordAt t at x → Ends (at + 1) (length t) (ofRecord t w at o f x)
-record-end t w at o f h hf Bad hx = tt
-record-end t w at o f h hf (Symbol len) hx =
-    pick (Ends (at + 1) (length t)) (isSymbol (payload t at len)) (λ _. (omega arith, omega arith)) (λ _. tt)
-record-end t w at o f h hf Integer hx = pick (Ends (at + 1) (length t)) (w && isLowest t at) (λ _. tt) (λ _. (omega arith, omega arith))
-record-end t w at o f h hf (Binding len) hx =
-    pick (Ends (at + 1) (length t)) o
-    (λ _. pick (Ends (at + 1) (length t)) (isSymbol (payload t at len))
-    (λ _. end-map (binding (payload t at len)) (at + 1) (at + len + 1) (length t) (omega arith) (f (at + len)) (hf (at + len) (omega arith)))
-    (λ _. tt))
-    (λ _. tt)
-record-end t w at o f h hf (ListOf n) hx =
-    pick (Ends (at + 1) (length t)) o
-    (λ _. end-map list (at + 1) (at + 10) (length t) (omega arith) (itemsAt f n (at + 10)) (items-end (length t) f hf n (at + 10) (omega arith)))
-    (λ _. tt)
+-- what a judged record says of the table's bytes, of the depth, and of what it names or holds
+abbrev pub StepIn : List ℕ → Bool → ℕ → ℕ → Step → Type 0
+StepIn t w d at (step.Fault n) = 0 < n
+StepIn t w d at (step.Symbol len) =
+    (6 ≤ len) × (len ≤ length t - at) × (isSymbol (payload t at len) ≡ true) × (len ≡ numberAt 4 t at) × (numberAt 2 t (at + 4) ≡ 1)
+StepIn t w d at step.Integer = (22 ≤ length t - at) × ((w && isLowest t at) ≡ false) × (numberAt 4 t at ≡ 22) × (numberAt 2 t (at + 4) ≡ 2)
+StepIn t w d at (step.Binding len) =
+    (6 ≤ len) × (len ≤ length t - at) × (0 < d) × (isSymbol (payload t at len) ≡ true) × (len ≡ numberAt 4 t at) × (numberAt 2 t (at + 4) ≡ 3)
+StepIn t w d at (step.List n) =
+    (10 ≤ length t - at) × (0 < d) × (n ≡ numberAt 4 t (at + 6)) × (numberAt 4 t at ≡ 10) × (numberAt 2 t (at + 4) ≡ 4)
 
-pub tree-end : (t : List ℕ) (w : Bool) (d : ℕ) → Ending (length t) (treeAt t w d)
+of-in : (t : List ℕ) (w : Bool) (d at : ℕ) (x : Record) → RecordAt t at x → StepIn t w d at (stepOf t w at (ltb 0 d) x)
+of-in t w d at Bad h = lit< tt
+of-in t w d at (Symbol len) h = pick (StepIn t w d at) (isSymbol (payload t at len)) (λ e. (h .2, h .3, e, h .0, h .1)) (λ _. lit< tt)
+of-in t w d at Integer h = pick (StepIn t w d at) (w && isLowest t at) (λ _. lit< tt) (λ e. (h .2, e, h .0, h .1))
+of-in t w d at (Binding len) h =
+    pick (StepIn t w d at) (ltb 0 d)
+    (λ l. pick (StepIn t w d at) (isSymbol (payload t at len)) (λ e. (h .2, h .3, ltb-true 0 d l, e, h .0, h .1)) (λ _. lit< tt)) (λ _. lit< tt)
+of-in t w d at (ListOf n) h = pick (StepIn t w d at) (ltb 0 d) (λ l. (h .3, ltb-true 0 d l, h .0, h .1, h .2)) (λ _. lit< tt)
+
+pub judged-in : (t : List ℕ) (w : Bool) (d at : ℕ) → StepIn t w d at (stepAt t w at (ltb 0 d))
+unfolding stepAt
+judged-in t w d at = of-in t w d at (recordAt t at) (record-in t at)
+
+-- where nothing deeper is allowed, nothing deeper is asked
+none-deeper : (t : List ℕ) (w : Bool) (at : ℕ) (f g : ℕ → Found Tree) (s : Step) → StepIn t w 0 at s → ofStep t at f s ≡ ofStep t at g s
+none-deeper t w at f g (step.Fault n) h = refl
+none-deeper t w at f g (step.Symbol len) h = refl
+none-deeper t w at f g step.Integer h = refl
+none-deeper t w at f g (step.Binding len) h = absurd (omega (arith, h .2))
+none-deeper t w at f g (step.List n) h = absurd (omega (arith, h .1))
+
+-- THE STEP: a tree is what its judged record comes to
+pub tree-step : (t : List ℕ) (w : Bool) (d at : ℕ) → treeAt t w d at ≡ ofStep t at (treeAt t w (d - 1)) (stepAt t w at (ltb 0 d))
 unfolding treeAt
-tree-end t w zero at h = record-end t w at false (refused tooDeep) h (λ p hp. tt) (recordAt t at) (record-in t at)
-tree-end t w (suc d) at h = record-end t w at true (treeAt t w d) h (tree-end t w d) (recordAt t at) (record-in t at)
-
--- the record decides, and where nothing deeper is allowed, nothing deeper is asked
-none-deeper : (t : List ℕ) (w : Bool) (at : ℕ) (f g : ℕ → Found Tree) (x : Record) → ofRecord t w at false f x ≡ ofRecord t w at false g x
-none-deeper t w at f g Bad = refl
-none-deeper t w at f g (Symbol len) = refl
-none-deeper t w at f g Integer = refl
-none-deeper t w at f g (Binding len) = refl
-none-deeper t w at f g (ListOf n) = refl
+tree-step t w zero at = none-deeper t w at (refused tooDeep) (treeAt t w (0 - 1)) (stepAt t w at false) (judged-in t w 0 at)
+tree-step t w (suc d) at =
+    let k : suc d - 1 ≡ d = omega arith in
+    rw k (ap (λ (o : Bool). ofStep t at (treeAt t w d) (stepAt t w at o)) (sym (lt-ltb 0 (suc d) (omega arith))))
 
 pub tree-of : (t : List ℕ) (w : Bool) (d at : ℕ) (x : Record) → x ≡ recordAt t at
-    → treeAt t w d at ≡ ofRecord t w at (ltb 0 d) (treeAt t w (d - 1)) x
-unfolding treeAt
-tree-of t w zero at x e =
-    ap (ofRecord t w at false (refused tooDeep)) (sym e) ∙ none-deeper t w at (refused tooDeep) (treeAt t w (0 - 1)) x
-tree-of t w (suc d) at x e =
+    → treeAt t w d at ≡ ofStep t at (treeAt t w (d - 1)) (stepOf t w at (ltb 0 d) x)
+unfolding stepAt
+tree-of t w d at x e = tree-step t w d at ∙ ap (λ (y : Record). ofStep t at (treeAt t w (d - 1)) (stepOf t w at (ltb 0 d) y)) (sym e)
+
+-- what holds of every judged record that the trees below it meet, holds of every tree
+pub by-steps : (t : List ℕ) (w : Bool) (P : ℕ → ℕ → Found Tree → Type 0)
+    → ((d at : ℕ) → (0 < d → (q : ℕ) → P (d - 1) q (treeAt t w (d - 1) q)) → (s : Step) → StepIn t w d at s → P d at (ofStep t at (treeAt t w (d - 1)) s))
+    → (d at : ℕ) → P d at (treeAt t w d at)
+by-steps t w P f zero at = subst⁻¹ (P 0 at) (tree-step t w 0 at) (f 0 at (λ l. absurd (omega arith)) (stepAt t w at (ltb 0 0)) (judged-in t w 0 at))
+by-steps t w P f (suc d) at =
     let k : suc d - 1 ≡ d = omega arith in
-    rw (e, k) (ap (λ (o : Bool). ofRecord t w at o (treeAt t w d) (recordAt t at)) (sym (lt-ltb 0 (suc d) (omega arith))))
+    subst⁻¹ (P (suc d) at) (tree-step t w (suc d) at)
+    (f (suc d) at (λ l. subst (λ (j : ℕ). (q : ℕ) → P j q (treeAt t w j q)) (sym k) (by-steps t w P f d)) (stepAt t w at (ltb 0 (suc d))) (judged-in t w (suc d) at))
+
+pub tree-end : (t : List ℕ) (w : Bool) (d : ℕ) → Ending (length t) (treeAt t w d)
+tree-end t w = by-steps t w (λ d at y. at ≤ length t → Ends (at + 1) (length t) y) by
+  where
+    by : (d at : ℕ) → (0 < d → Ending (length t) (treeAt t w (d - 1))) → (s : Step) → StepIn t w d at s → at ≤ length t
+        → Ends (at + 1) (length t) (ofStep t at (treeAt t w (d - 1)) s)
+    by d at hf (step.Fault n) hs h = tt
+    by d at hf (step.Symbol len) hs h = (omega (arith, hs .0), omega (arith, hs .1))
+    by d at hf step.Integer hs h = (omega arith, omega (arith, hs .0))
+    by d at hf (step.Binding len) hs h =
+        end-map (binding (payload t at len)) (at + 1) (at + len + 1) (length t) (omega arith) (treeAt t w (d - 1) (at + len))
+        (hf (hs .2) (at + len) (omega (arith, hs .1)))
+    by d at hf (step.List n) hs h =
+        end-map list (at + 1) (at + 10) (length t) (omega arith) (itemsAt (treeAt t w (d - 1)) n (at + 10))
+        (items-end (length t) (treeAt t w (d - 1)) (hf (hs .1)) n (at + 10) (omega (arith, hs .0)))

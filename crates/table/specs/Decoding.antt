@@ -1,5 +1,5 @@
 -- A table decoded, once, into its trees or the first refusal (document 01, 'Order').
-use Prim.Native.Nat.{ℕ, zero, suc, _+_, _-_, _^_}
+use Prim.Native.Nat.{ℕ, zero, suc, _+_, _^_}
 use mathlib.Core.Bool.{Bool, true, false, cond, _&&_}
 use mathlib.Core.List.{List}
 use lib.Dec.{ltb, eqb}
@@ -8,6 +8,8 @@ use Rattle.refusals.specs.Numbers.{tableLimit, depthLimit, tooLong, tooDeep, ba
 use Rattle.wide.specs.Bytes.{numberAt, integerAt}
 use Rattle.table.specs.Trees.{Tree, Trees, symbol, integer, binding, list, none, more, isSymbol}
 use Rattle.table.specs.Records.{Record, Symbol, Integer, Binding, ListOf, Bad, recordAt, payload}
+pub use Rattle.table.specs.declared.Step.{Step}
+use Rattle.table.specs.declared.Step.the-variants as step
 use Rattle.table.specs.declared.Checked.{Checked}
 use Rattle.table.specs.declared.Checked.the-variants as checked
 
@@ -29,24 +31,30 @@ itemsAt f (suc n) at = andThen (f at) (λ x q. andThen (itemsAt f n q) (λ xs r.
 abbrev pub isLowest : List ℕ → ℕ → Bool
 isLowest t at = eqb (numberAt 16 t (at + 6)) (2 ^ 127)
 
--- in a record 15, 13, 16, and at printing 17; `deeper` says if one more list or binding may be open, `sub` finds the trees below
-abbrev pub ofRecord : List ℕ → Bool → ℕ → Bool → (ℕ → Found Tree) → Record → Found Tree
-ofRecord t printing at deeper sub Bad = refused badRecord at
-ofRecord t printing at deeper sub (Symbol len) =
-    cond (isSymbol (payload t at len)) (found (symbol (payload t at len)) (at + len)) (refused badSymbol at)
-ofRecord t printing at deeper sub Integer =
-    cond (printing && isLowest t at) (refused lowest at) (found (integer (integerAt t (at + 6))) (at + 22))
-ofRecord t printing at deeper sub (Binding len) =
-    cond deeper
-    (cond (isSymbol (payload t at len)) (andThen (sub (at + len)) (λ x q. found (binding (payload t at len) x) q)) (refused badSymbol at))
-    (refused tooDeep at)
-ofRecord t printing at deeper sub (ListOf n) =
-    cond deeper (andThen (itemsAt sub n (at + 10)) (λ xs q. found (list xs) q)) (refused tooDeep at)
+-- a record judged by itself: 15, 13, 16, and at printing 17; `deeper` says if one more list or binding may be open
+abbrev pub stepOf : List ℕ → Bool → ℕ → Bool → Record → Step
+stepOf t printing at deeper Bad = step.Fault badRecord
+stepOf t printing at deeper (Symbol len) = cond (isSymbol (payload t at len)) (step.Symbol len) (step.Fault badSymbol)
+stepOf t printing at deeper Integer = cond (printing && isLowest t at) (step.Fault lowest) step.Integer
+stepOf t printing at deeper (Binding len) =
+    cond deeper (cond (isSymbol (payload t at len)) (step.Binding len) (step.Fault badSymbol)) (step.Fault tooDeep)
+stepOf t printing at deeper (ListOf n) = cond deeper (step.List n) (step.Fault tooDeep)
+
+unfoldable pub stepAt : List ℕ → Bool → ℕ → Bool → Step
+stepAt t printing at deeper = stepOf t printing at deeper (recordAt t at)
+
+-- what a judged record comes to, where `sub` finds the trees below it
+abbrev pub ofStep : List ℕ → ℕ → (ℕ → Found Tree) → Step → Found Tree
+ofStep t at sub (step.Fault n) = refused n at
+ofStep t at sub (step.Symbol len) = found (symbol (payload t at len)) (at + len)
+ofStep t at sub step.Integer = found (integer (integerAt t (at + 6))) (at + 22)
+ofStep t at sub (step.Binding len) = andThen (sub (at + len)) (λ x q. found (binding (payload t at len) x) q)
+ofStep t at sub (step.List n) = andThen (itemsAt sub n (at + 10)) (λ xs q. found (list xs) q)
 
 -- the tree at `at`, with d lists and bindings still to be opened
 unfoldable pub treeAt : List ℕ → Bool → ℕ → ℕ → Found Tree
-treeAt t printing zero at = ofRecord t printing at false (refused tooDeep) (recordAt t at)
-treeAt t printing (suc d) at = ofRecord t printing at true (treeAt t printing d) (recordAt t at)
+treeAt t printing zero at = ofStep t at (refused tooDeep) (stepAt t printing at false)
+treeAt t printing (suc d) at = ofStep t at (treeAt t printing d) (stepAt t printing at true)
 
 -- whole trees up to the table's end; k is more than there can be. A tree that is missing at the end is a record that the end cuts
 unfoldable pub treesAt : List ℕ → Bool → ℕ → ℕ → Found Trees

@@ -4,11 +4,11 @@ ghost use mathlib.Core.Path.{_≡_};
 ghost use Prim.Native.Nat.{_+_, _≤_};
 ghost use lib.ListN.{length};
 ghost use mathlib.Core.Bool.{false};
-ghost use Rattle.refusals.specs.Numbers.{tooDeep};
-ghost use Rattle.table.specs.Trees.{Tree, isSymbol};
-ghost use Rattle.table.specs.Records.{Symbol, Integer, recordAt, payload};
-ghost use Rattle.table.specs.Decoding.{refused, isLowest, ofRecord, treeAt, tableOf, judged, verdictOf};
-ghost use Rattle.table.specs.Walking.{walkOf};
+ghost use Rattle.refusals.specs.Numbers.{depthLimit};
+ghost use Rattle.table.specs.Trees.{isSymbol};
+ghost use Rattle.table.specs.Records.{recordAt, payload};
+ghost use Rattle.table.specs.Decoding.{isLowest, stepAt, treeAt, tableOf, judged, verdictOf};
+ghost use Rattle.table.specs.Walking.{pastSymbol, walkOf, pastOf};
 
 pub enum Record {
     // A symbol, or a binding's name: the length of its record.
@@ -105,62 +105,89 @@ fn is_lowest(t: &[u8], at: usize) -> bool
     (w.hi == i64::MIN) & (w.lo == 0)
 }
 
+pub enum Step {
+    // The number of the record's own refusal.
+    Fault(u8),
+    // As in a record; what they name or hold is good.
+    Symbol(usize),
+    Integer,
+    Binding(usize),
+    List(usize),
+}
+
+// The record at `at`, judged: 15, 13, 16, 17. `deeper` says if one more list or binding may be open.
+pub fn step_at(t: &[u8], at: usize, deeper: bool, printing: bool) -> Step
+    ensures { λ r. ⌜ r ≡ stepAt (now (t .entry)) printing at deeper ⌝ }
+{
+    let read = record_at(t, at);
+    match read {
+        Record::Bad => Step::Fault(refusals::BAD_RECORD),
+        Record::Symbol(len) => {
+            if is_name(t, at, len) {
+                return Step::Symbol(len);
+            }
+            Step::Fault(refusals::BAD_SYMBOL)
+        }
+        Record::Integer => {
+            if printing & is_lowest(t, at) {
+                return Step::Fault(refusals::LOWEST);
+            }
+            Step::Integer
+        }
+        Record::Binding(len) => {
+            if deeper {
+                if is_name(t, at, len) {
+                    return Step::Binding(len);
+                }
+                return Step::Fault(refusals::BAD_SYMBOL);
+            }
+            Step::Fault(refusals::TOO_DEEP)
+        }
+        Record::List(n) => {
+            if deeper {
+                return Step::List(n);
+            }
+            Step::Fault(refusals::TOO_DEEP)
+        }
+    }
+}
+
+// The place past the good symbol at `at`, or `at`.
+pub fn past_symbol(t: &[u8], at: usize) -> usize
+    ensures { λ r. ⌜ r ≡ pastSymbol (now (t .entry)) at ⌝ }
+{
+    let node = record_at(t, at);
+    match node {
+        Record::Symbol(len) => {
+            if is_name(t, at, len) {
+                return at + len;
+            }
+            at
+        }
+        Record::Bad => at,
+        Record::Integer => at,
+        Record::Binding(_) => at,
+        Record::List(_) => at,
+    }
+}
+
 enum Walked {
     // The place past a tree.
     Past(usize),
     Stopped(Refusal),
 }
 
-fn stopped(number: u8, place: usize) -> Walked
-    ensures { λ r. ⌜ r ≡ walkOf {A = Tree} (refused number place) ⌝ }
-{
-    Walked::Stopped(Refusal { number, place })
-}
-
-// A symbol's record: its payload is a symbol, or it is refused.
-fn check_symbol(t: &[u8], at: usize, len: usize) -> Walked
-    requires { ⌜ (6 ≤ len) × (at + len ≤ length (now t)) ⌝ }
-    ensures { λ r. ⌜ r ≡ walkOf (ofRecord (now (t .entry)) false at false (refused tooDeep) (Symbol len)) ⌝ }
-{
-    if is_name(t, at, len) {
-        return Walked::Past(at + len);
-    }
-    stopped(refusals::BAD_SYMBOL, at)
-}
-
-// An integer's record: only printing refuses one.
-fn check_integer(t: &[u8], at: usize, printing: bool) -> Walked
-    requires { ⌜ at + 22 ≤ length (now t) ⌝ }
-    ensures { λ r. ⌜ r ≡ walkOf (ofRecord (now (t .entry)) printing at false (refused tooDeep) Integer) ⌝ }
-{
-    if printing & is_lowest(t, at) {
-        return stopped(refusals::LOWEST, at);
-    }
-    Walked::Past(at + 22)
-}
-
-// The tree at `at`, with `depth` lists and bindings still to be opened; in a record 15, 13, 16, 17.
+// The tree at `at`, with `depth` lists and bindings still to be opened.
 fn check_tree(t: &[u8], at: usize, depth: usize, printing: bool) -> Walked
     ensures { λ r. ⌜ r ≡ walkOf (treeAt (now (t .entry)) printing depth at) ⌝ }
 {
-    let read = record_at(t, at);
-    match read {
-        Record::Bad => stopped(refusals::BAD_RECORD, at),
-        Record::Symbol(len) => check_symbol(t, at, len),
-        Record::Integer => check_integer(t, at, printing),
-        Record::Binding(len) => {
-            if depth == 0 {
-                return stopped(refusals::TOO_DEEP, at);
-            }
-            if is_name(t, at, len) {
-                return check_tree(t, at + len, depth - 1, printing);
-            }
-            stopped(refusals::BAD_SYMBOL, at)
-        }
-        Record::List(n) => {
-            if depth == 0 {
-                return stopped(refusals::TOO_DEEP, at);
-            }
+    let step = step_at(t, at, 0 < depth, printing);
+    match step {
+        Step::Fault(number) => Walked::Stopped(Refusal { number, place: at }),
+        Step::Symbol(len) => Walked::Past(at + len),
+        Step::Integer => Walked::Past(at + 22),
+        Step::Binding(len) => check_tree(t, at + len, depth - 1, printing),
+        Step::List(n) => {
             let mut p = at + 10;
             let mut i = 0;
             while i < n {
@@ -177,6 +204,17 @@ fn check_tree(t: &[u8], at: usize, depth: usize, printing: bool) -> Walked
             }
             Walked::Past(p)
         }
+    }
+}
+
+// The place past the tree at `at`, or `at` where there is none.
+pub fn past(t: &[u8], at: usize) -> usize
+    ensures { λ r. ⌜ r ≡ pastOf at (treeAt (now (t .entry)) false depthLimit at) ⌝ }
+{
+    let tree = check_tree(t, at, refusals::DEPTH_LIMIT, false);
+    match tree {
+        Walked::Past(q) => q,
+        Walked::Stopped(_) => at,
     }
 }
 

@@ -10,7 +10,7 @@ use Rattle.table.specs.Decoding.{treeAt}
 use Rattle.printer.specs.Code.{treeOf}
 use Rattle.printer.proofs.Bounds.{laid-in}
 use Rattle.printer.proofs.Founds.{found-end}
-use Rattle.printer.proofs.Pages.{Pages, pages-begin, pages-tree, pages-step, pages-end, framed-le}
+use Rattle.printer.proofs.Pages.{Pages, pages-begin, pages-tree, pages-step, pages-end, within, limit, framed-le}
 use Rattle.printer.proofs.print_trees.Statement.{statement}
 use Rattle.printer.proofs.print_trees.Tie as tie
 
@@ -36,7 +36,7 @@ part-print-node-end : tie.Need-part-print-node-end Inv-loop μ-loop
 part-print-node-end c = search needs
 
 print-node-requires : tie.Need-print-node-requires Inv-loop μ-loop
-print-node-requires c κs = let v = c .before .before .before .loop .inv in (v .within, v .limit, pages-tree v (c .before .before .loop-test .taken))
+print-node-requires c κs = let v = c .before .before .before .loop .inv in (within v, limit v, pages-tree v (c .before .before .loop-test .taken))
 
 add-w : tie.Need-add-w Inv-loop μ-loop
 add-w c =
@@ -44,10 +44,10 @@ add-w c =
     let s = c .before .before .before .before .before .before .before .before .before .before in
     let r = pages-tree v (c .before .before .before .before .before .before .loop-test .taken) in
     let e = c .before .before .before .print-node .ensures in
-    let l = laid-in (s .args .t .now) (c .before .before .before .before .before .before .before .loop .p) (s .args .width) (λ i. (c .before .before .before .before .before .before .before .before .before .shared-slice-known .given i) .fits) (v .within) r in
-    let f = found-end (s .args .t .now) depthLimit (c .before .before .before .before .before .before .before .loop .p) (v .within) r in
+    let l = laid-in (s .args .t .now) (c .before .before .before .before .before .before .before .loop .p) (s .args .width) (λ i. (c .before .before .before .before .before .before .before .before .before .shared-slice-known .given i) .fits) (within v) r in
+    let f = found-end (s .args .t .now) depthLimit (c .before .before .before .before .before .before .before .loop .p) (within v) r in
     let z = framed-le (ltb 0 (c .before .before .before .before .before .before .before .loop .p)) (treeOf (treeAt (s .args .t .now) true depthLimit (c .before .before .before .before .before .before .before .loop .p))) (s .args .width) in
-    omega (arith, e .1, v .small, v .limit)
+    omega (arith, e .1, v .small, limit v)
 
 loop-less : tie.Need-loop-less Inv-loop μ-loop
 loop-less c =
@@ -55,8 +55,8 @@ loop-less c =
     let s = c .before .before .before .before .before .before .before .before .before .before in
     let r = pages-tree v (c .before .before .before .before .before .before .loop-test .taken) in
     let e = c .before .before .before .print-node .ensures in
-    let l = laid-in (s .args .t .now) (c .before .before .before .before .before .before .before .loop .p) (s .args .width) (λ i. (c .before .before .before .before .before .before .before .before .before .shared-slice-known .given i) .fits) (v .within) r in
-    let f = found-end (s .args .t .now) depthLimit (c .before .before .before .before .before .before .before .loop .p) (v .within) r in
+    let l = laid-in (s .args .t .now) (c .before .before .before .before .before .before .before .loop .p) (s .args .width) (λ i. (c .before .before .before .before .before .before .before .before .before .shared-slice-known .given i) .fits) (within v) r in
+    let f = found-end (s .args .t .now) depthLimit (c .before .before .before .before .before .before .before .loop .p) (within v) r in
     let z = framed-le (ltb 0 (c .before .before .before .before .before .before .before .loop .p)) (treeOf (treeAt (s .args .t .now) true depthLimit (c .before .before .before .before .before .before .before .loop .p))) (s .args .width) in
     omega (arith, e .0)
 
@@ -66,8 +66,8 @@ loop-again c =
     let s = c .before .before .before .before .before .before .before .before .before .before in
     let r = pages-tree v (c .before .before .before .before .before .before .loop-test .taken) in
     let e = c .before .before .before .print-node .ensures in
-    let l = laid-in (s .args .t .now) (c .before .before .before .before .before .before .before .loop .p) (s .args .width) (λ i. (c .before .before .before .before .before .before .before .before .before .shared-slice-known .given i) .fits) (v .within) r in
-    let f = found-end (s .args .t .now) depthLimit (c .before .before .before .before .before .before .before .loop .p) (v .within) r in
+    let l = laid-in (s .args .t .now) (c .before .before .before .before .before .before .before .loop .p) (s .args .width) (λ i. (c .before .before .before .before .before .before .before .before .before .shared-slice-known .given i) .fits) (within v) r in
+    let f = found-end (s .args .t .now) depthLimit (c .before .before .before .before .before .before .before .loop .p) (within v) r in
     let z = framed-le (ltb 0 (c .before .before .before .before .before .before .before .loop .p)) (treeOf (treeAt (s .args .t .now) true depthLimit (c .before .before .before .before .before .before .before .loop .p))) (s .args .width) in
     pages-step v (c .before .before .before .before .before .before .loop-test .taken) _ _ _ _ (e .0) (e .1) (omega arith) (c .before .before .before .before .before .least .ensures .1) (e .2) (c .before .before .out .given .1)
 

@@ -7,10 +7,11 @@ use native.Mathlib.Nat.{pos-of-ne-zero}
 use borrow.Author.Needs.{needs}
 use lib.Dec.{eqb}
 use Rattle.wide.proofs.Numbers.{Bytes}
-use Rattle.table.proofs.Reading.{symbol-in, binding-in, integer-in, list-in}
+use Rattle.table.specs.declared.Step.the-variants as step
+use Rattle.table.proofs.Steps.{step-in}
 use Rattle.printer.specs.Layout.{Wrap}
 use Rattle.printer.proofs.Bounds.{inner-le}
-use Rattle.printer.proofs.Walks.{got-tree, got-name, small, at-bad, symbol-bad, symbol-good, at-integer, binding-deep, binding-bad, binding-stop, binding-good, list-deep, at-list, list-small}
+use Rattle.printer.proofs.Walks.{got-tree, got-name, small, at-fault, at-symbol, at-integer, binding-stop, binding-good, at-list, list-few}
 use Rattle.printer.proofs.Walks.{Walk, walk-begin, walk-name, walk-tree, walk-stop, walk-line, walk-wide, none-sized, column-le, breaks-fit, laid-fit}
 use borrow.Fn.Kinds.{In}
 use borrow.Fn.PlainCycle.{Measures, is, falls, and}
@@ -23,13 +24,13 @@ use Rattle.printer.proofs.measure.+measure_list+measure_tree.Lts-measur
 use Rattle.printer.proofs.measure.atom.Reads as atom-reads
 use Rattle.printer.proofs.measure.begins.Reads as begins-reads
 use Rattle.printer.proofs.measure.inner.Reads as inner-reads
-use Rattle.printer.proofs.measure.is_name.Reads as is-name-reads
-use Rattle.printer.proofs.measure.measure_integer.Reads as measure-integer-reads
-use Rattle.printer.proofs.measure.past_name.Reads as past-name-reads
+use Rattle.table.proofs.past_symbol.Reads as past-symbol-reads
 use Rattle.printer.proofs.measure.stopped.Reads as stopped-reads
-use Rattle.table.proofs.record_at.Reads as record-at-reads
 use Rattle.printer.proofs.measure.+measure_list+measure_tree.{statement}
 use Rattle.printer.proofs.measure.+measure_list+measure_tree.Tie.{close}
+use Rattle.table.proofs.step_at.Reads as step-at-reads
+use Rattle.wide.proofs.decimal_len.Reads as decimal-len-reads
+use Rattle.wide.proofs.wide_at.Reads as wide-at-reads
 
 abbrev μ-measure-list : Measures 1 measure-list-kinds.ps ℕ
 μ-measure-list κs a = 2 * a .1 .1 .1 .0 + 1
@@ -64,8 +65,8 @@ measure-tree-below t =
 -- the contracts of the functions that each calls
 abbrev measure-list-calls : ℕ → measure-list-lts.Claims
 measure-list-calls t = (
-  past-name-reads.Asked,
-  past-name-reads.Learnt,
+  past-symbol-reads.Asked,
+  past-symbol-reads.Learnt,
   inner-reads.Asked,
   inner-reads.Learnt,
   begins-reads.Asked,
@@ -78,16 +79,16 @@ measure-list-calls t = (
 
 abbrev measure-tree-calls : ℕ → measure-tree-lts.Claims
 measure-tree-calls t = (
-  record-at-reads.Asked,
-  record-at-reads.Learnt,
+  step-at-reads.Asked,
+  step-at-reads.Learnt,
   stopped-reads.Asked,
   stopped-reads.Learnt,
-  is-name-reads.Asked,
-  is-name-reads.Learnt,
   atom-reads.Asked,
   atom-reads.Learnt,
-  measure-integer-reads.Asked,
-  measure-integer-reads.Learnt,
+  wide-at-reads.Asked,
+  wide-at-reads.Learnt,
+  decimal-len-reads.Asked,
+  decimal-len-reads.Learnt,
   measure-tree-below t,
   measure-tree.Post,
   measure-list-below t,
@@ -103,14 +104,14 @@ measure-list-μ-loop t at n depth width indent column p₀ i₀ cost₀ empty₀
 
 -- no sum wraps where a symbol is counted in, and where another tree is: the walk past it is bounded
 measure-list-named : (t : ℕ) (c : measure-list-lts.Then2 (measure-list-calls t) (measure-list-at t) measure-list.Post measure-list-Inv-loop measure-list-μ-loop)
-    → (c .before .before .before .loop .cost + (c .before .past-name .result - c .before .before .before .loop .p - 6) ≤ 8589934592)
-    × (c .before .before .before .loop .len + (c .before .past-name .result - c .before .before .before .loop .p - 6) ≤ 8589934592)
+    → (c .before .before .before .loop .cost + (c .before .past-symbol .result - c .before .before .before .loop .p - 6) ≤ 8589934592)
+    × (c .before .before .before .loop .len + (c .before .past-symbol .result - c .before .before .before .loop .p - 6) ≤ 8589934592)
 measure-list-named t c =
     let l = c .before .before .before .loop in
     let b = c .before .before .before .before .before in
     let h = b .before .pre .1 in
     let g =
-    walk-name _ _ _ _ _ _ _ _ _ _ _ _ (l .inv .1) (c .before .before .loop-test .taken) _ _ _ _ _ (λ i. (b .shared-slice-known .given i) .fits) (h .2) (c .before .past-name .ensures) (c .if2 .taken) refl refl refl refl in
+    walk-name _ _ _ _ _ _ _ _ _ _ _ _ (l .inv .1) (c .before .before .loop-test .taken) _ _ _ _ _ (λ i. (b .shared-slice-known .given i) .fits) (h .2) (c .before .past-symbol .ensures) (c .if2 .taken) refl refl refl refl in
     (omega (arith, g .lines, g .from, g .within, h .1, h .4), omega (arith, g .lays, g .from, g .within, h .1, h .2))
 
 measure-list-treed : (t : ℕ) (c : measure-list-lts.After-struct-known2 (measure-list-calls t) (measure-list-at t) measure-list.Post measure-list-Inv-loop measure-list-μ-loop)
@@ -141,14 +142,14 @@ measure-list-add-len t c = search needs
 measure-list-loop-holds : (t : ℕ) → measure-list-lts.Need-loop-holds (measure-list-calls t) (measure-list-at t) measure-list.Post measure-list-Inv-loop measure-list-μ-loop
 measure-list-loop-holds t c = (pos-of-ne-zero (c .if1 .left), walk-begin _ _ _ _ _ _ _ (c .before .before .pre .1 .0))
 
-measure-list-past-name-requires : (t : ℕ) → measure-list-lts.Need-past-name-requires (measure-list-calls t) (measure-list-at t) measure-list.Post measure-list-Inv-loop measure-list-μ-loop
-measure-list-past-name-requires t c κs = search needs
+measure-list-past-symbol-requires : (t : ℕ) → measure-list-lts.Need-past-symbol-requires (measure-list-calls t) (measure-list-at t) measure-list.Post measure-list-Inv-loop measure-list-μ-loop
+measure-list-past-symbol-requires t c κs = search needs
 
 measure-list-sub-k : (t : ℕ) → measure-list-lts.Need-sub-k (measure-list-calls t) (measure-list-at t) measure-list.Post measure-list-Inv-loop measure-list-μ-loop
 measure-list-sub-k t c = search needs
 
 measure-list-sub-k-2 : (t : ℕ) → measure-list-lts.Need-sub-k-2 (measure-list-calls t) (measure-list-at t) measure-list.Post measure-list-Inv-loop measure-list-μ-loop
-measure-list-sub-k-2 t c = omega (arith, got-name _ 0 _ 0 0 0 _ (c .before .past-name .ensures) (c .if2 .taken) .0)
+measure-list-sub-k-2 t c = omega (arith, got-name _ 0 _ 0 0 0 _ (c .before .past-symbol .ensures) (c .if2 .taken) .0)
 
 measure-list-add-cost-2 : (t : ℕ) → measure-list-lts.Need-add-cost-2 (measure-list-calls t) (measure-list-at t) measure-list.Post measure-list-Inv-loop measure-list-μ-loop
 measure-list-add-cost-2 t c = omega (arith, measure-list-named t c .0)
@@ -204,7 +205,7 @@ measure-list-loop-again t c =
     let hb : Bytes (b .before .args .t .now) = λ i. (b .shared-slice-known .given i) .fits in (
       l .inv .0,
       ⊎-elim
-          (λ v. walk-name _ _ _ _ _ _ _ _ _ _ _ _ (l .inv .1) lt _ _ _ _ _ hb (h .2) (c .before .past-name .ensures) (v .0 .taken) (v .1) (v .2) (v .3) (v .4))
+          (λ v. walk-name _ _ _ _ _ _ _ _ _ _ _ _ (l .inv .1) lt _ _ _ _ _ hb (h .2) (c .before .past-symbol .ensures) (v .0 .taken) (v .1) (v .2) (v .3) (v .4))
           (λ v. walk-tree _ _ _ _ _ _ _ _ _ _ _ _ (l .inv .1) lt _ _ _ _ _ _ _ hb (h .2) (v .1 .ensures) (v .2 .ensures) (v .3 .ensures) (v .5 .left) (v .9) (v .10) (v .11) (v .12))
           (c .if2 .came),
     )
@@ -251,139 +252,117 @@ measure-list-returns-4 t c = let l = c .before .before .loop in walk-wide _ _ _ 
 
 -- no sum wraps at a binding
 measure-tree-bound : (t : ℕ) (c : measure-tree-lts.After-struct-known2 (measure-tree-calls t) (measure-tree-at t) measure-tree.Post)
-    → (c .before .before .before .before .before .before .before .before .node2 .given .0 .0 - 3 + c .before .before .before .measure-tree .result .cost ≤ 8589934592)
-    × (c .before .before .before .before .before .before .before .before .node2 .given .0 .0 - 3 + c .before .before .before .measure-tree .result .len ≤ 8589934592)
+    → (c .before .before .before .before .before .step3 .given .0 .0 - 3 + c .before .before .before .measure-tree .result .cost ≤ 8589934592)
+    × (c .before .before .before .before .before .step3 .given .0 .0 - 3 + c .before .before .before .measure-tree .result .len ≤ 8589934592)
 measure-tree-bound t c =
-    let h = c .before .before .before .before .before .before .before .before .before .before .before .before .pre .1 in
-    let z = pos-of-ne-zero (c .before .before .before .before .before .before .if2 .left) in
-    let n = binding-in _ _ _ _ (c .before .before .before .before .before .before .before .before .before .before .record-at .ensures) (c .before .before .before .before .before .before .before .before .node2 .given .1) in
-    let y = got-tree _ _ _ _ _ _ _ (c .before .before .before .measure-tree .ensures) (c .before .if4 .left) in
-    let g = small _ _ _ _ _ _ _ _ _ _ (λ i. (c .before .before .before .before .before .before .before .before .before .before .before .shared-slice-known .given i) .fits) (omega (arith, h .0, n .1)) (omega (arith, h .2)) y in
+    let h = c .before .before .before .before .before .before .before .before .before .pre .1 in
+    let n = step-in _ _ (c .before .before .before .before .before .before .before .before .before .args .depth) _ _ (step.Binding _) (c .before .before .before .before .before .before .before .step-at .ensures) (c .before .before .before .before .before .step3 .given .1) in
+    let y = got-tree _ _ _ _ _ _ _ (c .before .before .before .measure-tree .ensures) (c .before .if1 .left) in
+    let g = small _ _ _ _ _ _ _ _ _ _ (λ i. (c .before .before .before .before .before .before .before .before .shared-slice-known .given i) .fits) (omega (arith, h .0, n .1)) (omega (arith, h .2, n .2)) y in
     (omega (arith, g .lines, g .within, h .0, h .1, n .1), omega (arith, g .lays, g .within, h .0, h .1, n .1))
 
-measure-tree-record-at-requires : (t : ℕ) → measure-tree-lts.Need-record-at-requires (measure-tree-calls t) (measure-tree-at t) measure-tree.Post
-measure-tree-record-at-requires t c κs = search needs
+measure-tree-step-at-requires : (t : ℕ) → measure-tree-lts.Need-step-at-requires (measure-tree-calls t) (measure-tree-at t) measure-tree.Post
+measure-tree-step-at-requires t c κs = search needs
 
-measure-tree-enum-told : (t : ℕ) → measure-tree-lts.Need-enum-told (measure-tree-calls t) (measure-tree-at t) measure-tree.Post
-measure-tree-enum-told t c = search needs
+measure-tree-enum-known-step : (t : ℕ) → measure-tree-lts.Need-enum-known-step (measure-tree-calls t) (measure-tree-at t) measure-tree.Post
+measure-tree-enum-known-step t c = search needs
 
 measure-tree-stopped-requires : (t : ℕ) → measure-tree-lts.Need-stopped-requires (measure-tree-calls t) (measure-tree-at t) measure-tree.Post
 measure-tree-stopped-requires t c κs = search needs
 
-measure-tree-enum-known-node : (t : ℕ) → measure-tree-lts.Need-enum-known-node (measure-tree-calls t) (measure-tree-at t) measure-tree.Post
-measure-tree-enum-known-node t c = search needs
-
-measure-tree-is-name-requires : (t : ℕ) → measure-tree-lts.Need-is-name-requires (measure-tree-calls t) (measure-tree-at t) measure-tree.Post
-measure-tree-is-name-requires t c κs = let h = symbol-in _ _ _ _ (c .before .before .before .record-at .ensures) (c .before .node .given .1) in (h .0, omega arith)
+measure-tree-enum-known-step-2 : (t : ℕ) → measure-tree-lts.Need-enum-known-step-2 (measure-tree-calls t) (measure-tree-at t) measure-tree.Post
+measure-tree-enum-known-step-2 t c = search needs
 
 measure-tree-add-atom : (t : ℕ) → measure-tree-lts.Need-add-atom (measure-tree-calls t) (measure-tree-at t) measure-tree.Post
-measure-tree-add-atom t c = omega (arith, symbol-in _ _ _ _ (c .before .before .before .before .before .record-at .ensures) (c .before .before .before .node .given .1))
+measure-tree-add-atom t c = omega (arith, step-in _ _ (c .before .before .before .before .before .args .depth) _ _ (step.Symbol _) (c .before .before .before .step-at .ensures) (c .before .step2 .given .1))
 
 measure-tree-sub-atom : (t : ℕ) → measure-tree-lts.Need-sub-atom (measure-tree-calls t) (measure-tree-at t) measure-tree.Post
-measure-tree-sub-atom t c = omega (arith, symbol-in _ _ _ _ (c .before .before .before .before .before .record-at .ensures) (c .before .before .before .node .given .1))
+measure-tree-sub-atom t c = omega (arith, step-in _ _ (c .before .before .before .before .before .args .depth) _ _ (step.Symbol _) (c .before .before .before .step-at .ensures) (c .before .step2 .given .1))
 
 measure-tree-atom-requires : (t : ℕ) → measure-tree-lts.Need-atom-requires (measure-tree-calls t) (measure-tree-at t) measure-tree.Post
 measure-tree-atom-requires t c κs = search needs
 
-measure-tree-returns : (t : ℕ) → measure-tree-lts.Need-returns (measure-tree-calls t) (measure-tree-at t) measure-tree.Post
-measure-tree-returns t c = symbol-good _ _ _ _ (c .before .before .before .before .before .before .record-at .ensures) _ _ _ _ _ _ (c .before .before .before .before .node .given .1) (c .before .before .is-name .ensures) (c .before .if1 .taken) (c .atom .ensures)
+measure-tree-enum-told : (t : ℕ) → measure-tree-lts.Need-enum-told (measure-tree-calls t) (measure-tree-at t) measure-tree.Post
+measure-tree-enum-told t c = search needs
+
+measure-tree-add-atom-2 : (t : ℕ) → measure-tree-lts.Need-add-atom-2 (measure-tree-calls t) (measure-tree-at t) measure-tree.Post
+measure-tree-add-atom-2 t c = omega (arith, step-in _ _ (c .before .before .before .before .args .depth) _ _ step.Integer (c .before .before .step-at .ensures) (c .enum-told .given .1))
+
+measure-tree-add-wide-at : (t : ℕ) → measure-tree-lts.Need-add-wide-at (measure-tree-calls t) (measure-tree-at t) measure-tree.Post
+measure-tree-add-wide-at t c = omega (arith, step-in _ _ (c .before .before .before .before .args .depth) _ _ step.Integer (c .before .before .step-at .ensures) (c .enum-told .given .1))
+
+measure-tree-wide-at-requires : (t : ℕ) → measure-tree-lts.Need-wide-at-requires (measure-tree-calls t) (measure-tree-at t) measure-tree.Post
+measure-tree-wide-at-requires t c κs = search needs
+
+measure-tree-decimal-len-requires : (t : ℕ) → measure-tree-lts.Need-decimal-len-requires (measure-tree-calls t) (measure-tree-at t) measure-tree.Post
+measure-tree-decimal-len-requires t c κs = search needs
+
+measure-tree-atom-requires-2 : (t : ℕ) → measure-tree-lts.Need-atom-requires-2 (measure-tree-calls t) (measure-tree-at t) measure-tree.Post
+measure-tree-atom-requires-2 t c κs = search needs
+
+measure-tree-enum-known-step-3 : (t : ℕ) → measure-tree-lts.Need-enum-known-step-3 (measure-tree-calls t) (measure-tree-at t) measure-tree.Post
+measure-tree-enum-known-step-3 t c = search needs
+
+measure-tree-sub-n : (t : ℕ) → measure-tree-lts.Need-sub-n (measure-tree-calls t) (measure-tree-at t) measure-tree.Post
+measure-tree-sub-n t c = omega (arith, step-in _ _ (c .before .before .before .before .before .args .depth) _ _ (step.Binding _) (c .before .before .before .step-at .ensures) (c .before .step3 .given .1))
+
+measure-tree-add-measure-tree : (t : ℕ) → measure-tree-lts.Need-add-measure-tree (measure-tree-calls t) (measure-tree-at t) measure-tree.Post
+measure-tree-add-measure-tree t c = omega (arith, step-in _ _ (c .before .before .before .before .before .args .depth) _ _ (step.Binding _) (c .before .before .before .step-at .ensures) (c .before .step3 .given .1))
+
+measure-tree-sub-measure-tree : (t : ℕ) → measure-tree-lts.Need-sub-measure-tree (measure-tree-calls t) (measure-tree-at t) measure-tree.Post
+measure-tree-sub-measure-tree t c = omega (arith, step-in _ _ (c .before .before .before .before .before .args .depth) _ _ (step.Binding _) (c .before .before .before .step-at .ensures) (c .before .step3 .given .1))
+
+measure-tree-add-measure-tree-2 : (t : ℕ) → measure-tree-lts.Need-add-measure-tree-2 (measure-tree-calls t) (measure-tree-at t) measure-tree.Post
+measure-tree-add-measure-tree-2 t c = let h = c .before .before .before .before .before .pre .1 in omega (arith, step-in _ _ (c .before .before .before .before .before .args .depth) _ _ (step.Binding _) (c .before .before .before .step-at .ensures) (c .before .step3 .given .1), h .0, h .1, h .3)
+
+measure-tree-measure-tree-requires : (t : ℕ) → measure-tree-lts.Need-measure-tree-requires (measure-tree-calls t) (measure-tree-at t) measure-tree.Post
+measure-tree-measure-tree-requires t c κs =
+    let h = c .before .before .before .before .before .pre .1 in
+    let n = step-in _ _ (c .before .before .before .before .before .args .depth) _ _ (step.Binding _) (c .before .before .before .step-at .ensures) (c .before .step3 .given .1) in
+    (omega (arith, c .before .before .before .before .before .pre .0, n .2), (omega (arith, h .0, n .1), h .1, omega (arith, h .2, n .2), omega (arith, h .3, n .0)))
 
 measure-tree-stopped-requires-2 : (t : ℕ) → measure-tree-lts.Need-stopped-requires-2 (measure-tree-calls t) (measure-tree-at t) measure-tree.Post
 measure-tree-stopped-requires-2 t c κs = search needs
 
-measure-tree-enum-told-2 : (t : ℕ) → measure-tree-lts.Need-enum-told-2 (measure-tree-calls t) (measure-tree-at t) measure-tree.Post
-measure-tree-enum-told-2 t c = search needs
+measure-tree-returns : (t : ℕ) → measure-tree-lts.Need-returns (measure-tree-calls t) (measure-tree-at t) measure-tree.Post
+measure-tree-returns t c = binding-stop _ _ _ _ (c .before .before .before .before .before .before .before .step-at .ensures) _ _ _ _ _ _ (c .before .before .before .before .before .step3 .given .1) (c .before .before .before .measure-tree .ensures) (c .before .if1 .taken) (c .stopped2 .ensures)
 
-measure-tree-measure-integer-requires : (t : ℕ) → measure-tree-lts.Need-measure-integer-requires (measure-tree-calls t) (measure-tree-at t) measure-tree.Post
-measure-tree-measure-integer-requires t c κs = omega (arith, integer-in _ _ _ (c .before .before .record-at .ensures) (c .enum-told2 .given .1))
+measure-tree-add-t22 : (t : ℕ) → measure-tree-lts.Need-add-t22 (measure-tree-calls t) (measure-tree-at t) measure-tree.Post
+measure-tree-add-t22 t c = omega (arith, measure-tree-bound t c .0)
 
-measure-tree-enum-known-node-2 : (t : ℕ) → measure-tree-lts.Need-enum-known-node-2 (measure-tree-calls t) (measure-tree-at t) measure-tree.Post
-measure-tree-enum-known-node-2 t c = search needs
+measure-tree-add-t23 : (t : ℕ) → measure-tree-lts.Need-add-t23 (measure-tree-calls t) (measure-tree-at t) measure-tree.Post
+measure-tree-add-t23 t c = omega (arith, measure-tree-bound t (c .before) .1)
 
-measure-tree-stopped-requires-3 : (t : ℕ) → measure-tree-lts.Need-stopped-requires-3 (measure-tree-calls t) (measure-tree-at t) measure-tree.Post
-measure-tree-stopped-requires-3 t c κs = search needs
-
-measure-tree-returns-2 : (t : ℕ) → measure-tree-lts.Need-returns-2 (measure-tree-calls t) (measure-tree-at t) measure-tree.Post
-measure-tree-returns-2 t c = binding-deep _ _ _ _ (c .before .before .before .before .before .record-at .ensures) _ _ _ _ _ (c .before .before .before .node2 .given .1) (c .before .if2 .taken) (c .stopped3 .ensures)
-
-measure-tree-is-name-requires-2 : (t : ℕ) → measure-tree-lts.Need-is-name-requires-2 (measure-tree-calls t) (measure-tree-at t) measure-tree.Post
-measure-tree-is-name-requires-2 t c κs = let h = binding-in _ _ _ _ (c .before .before .before .before .record-at .ensures) (c .before .before .node2 .given .1) in (h .0, omega arith)
-
-measure-tree-sub-n : (t : ℕ) → measure-tree-lts.Need-sub-n (measure-tree-calls t) (measure-tree-at t) measure-tree.Post
-measure-tree-sub-n t c = omega (arith, binding-in _ _ _ _ (c .before .before .before .before .before .before .record-at .ensures) (c .before .before .before .before .node2 .given .1))
-
-measure-tree-add-measure-tree : (t : ℕ) → measure-tree-lts.Need-add-measure-tree (measure-tree-calls t) (measure-tree-at t) measure-tree.Post
-measure-tree-add-measure-tree t c = omega (arith, binding-in _ _ _ _ (c .before .before .before .before .before .before .record-at .ensures) (c .before .before .before .before .node2 .given .1))
-
-measure-tree-sub-measure-tree : (t : ℕ) → measure-tree-lts.Need-sub-measure-tree (measure-tree-calls t) (measure-tree-at t) measure-tree.Post
-measure-tree-sub-measure-tree t c = search needs
-
-measure-tree-add-measure-tree-2 : (t : ℕ) → measure-tree-lts.Need-add-measure-tree-2 (measure-tree-calls t) (measure-tree-at t) measure-tree.Post
-measure-tree-add-measure-tree-2 t c = omega (arith, binding-in _ _ _ _ (c .before .before .before .before .before .before .record-at .ensures) (c .before .before .before .before .node2 .given .1), c .before .before .before .before .before .before .before .before .pre .1 .0, c .before .before .before .before .before .before .before .before .pre .1 .1, c .before .before .before .before .before .before .before .before .pre .1 .3)
-
-measure-tree-measure-tree-requires : (t : ℕ) → measure-tree-lts.Need-measure-tree-requires (measure-tree-calls t) (measure-tree-at t) measure-tree.Post
-measure-tree-measure-tree-requires t c κs =
-    let s = c .before .before .before .before .before .before .before .before in
-    let h = s .pre .1 in
-    let z = pos-of-ne-zero (c .before .before .if2 .left) in
-    let n = binding-in _ _ _ _ (c .before .before .before .before .before .before .record-at .ensures) (c .before .before .before .before .node2 .given .1) in
-    (omega (arith, s .pre .0), (omega (arith, h .0, n .1), h .1, omega (arith, h .2), omega (arith, h .3, n .0)))
-
-measure-tree-stopped-requires-4 : (t : ℕ) → measure-tree-lts.Need-stopped-requires-4 (measure-tree-calls t) (measure-tree-at t) measure-tree.Post
-measure-tree-stopped-requires-4 t c κs = search needs
-
-measure-tree-returns-3 : (t : ℕ) → measure-tree-lts.Need-returns-3 (measure-tree-calls t) (measure-tree-at t) measure-tree.Post
-measure-tree-returns-3 t c = binding-stop _ _ _ _ (c .before .before .before .before .before .before .before .before .before .before .record-at .ensures) _ _ _ _ _ _ _ (c .before .before .before .before .before .before .before .before .node2 .given .1) (c .before .before .before .before .before .before .if2 .left) (c .before .before .before .before .before .is-name2 .ensures) (c .before .before .before .before .if3 .taken) (c .before .before .before .measure-tree .ensures) (c .before .if4 .taken) (c .stopped4 .ensures)
-
-measure-tree-add-t19 : (t : ℕ) → measure-tree-lts.Need-add-t19 (measure-tree-calls t) (measure-tree-at t) measure-tree.Post
-measure-tree-add-t19 t c = omega (arith, measure-tree-bound t c .0)
-
-measure-tree-add-t20 : (t : ℕ) → measure-tree-lts.Need-add-t20 (measure-tree-calls t) (measure-tree-at t) measure-tree.Post
-measure-tree-add-t20 t c = omega (arith, measure-tree-bound t (c .before) .1)
-
-measure-tree-returns-4 : (t : ℕ) → measure-tree-lts.Need-returns-4 (measure-tree-calls t) (measure-tree-at t) measure-tree.Post
-measure-tree-returns-4 t c = binding-good _ _ _ _ (c .before .before .before .before .before .before .before .before .before .before .before .record-at .ensures) _ _ _ _ _ _ _ (c .before .before .before .before .before .before .before .before .before .node2 .given .1) (c .before .before .before .before .before .before .before .if2 .left) (c .before .before .before .before .before .before .is-name2 .ensures) (c .before .before .before .before .before .if3 .taken) (c .before .before .before .before .measure-tree .ensures) (c .before .before .if4 .left) (refl, refl, refl, refl, refl)
-
-measure-tree-stopped-requires-5 : (t : ℕ) → measure-tree-lts.Need-stopped-requires-5 (measure-tree-calls t) (measure-tree-at t) measure-tree.Post
-measure-tree-stopped-requires-5 t c κs = search needs
-
-measure-tree-enum-known-node-3 : (t : ℕ) → measure-tree-lts.Need-enum-known-node-3 (measure-tree-calls t) (measure-tree-at t) measure-tree.Post
-measure-tree-enum-known-node-3 t c = search needs
-
-measure-tree-stopped-requires-6 : (t : ℕ) → measure-tree-lts.Need-stopped-requires-6 (measure-tree-calls t) (measure-tree-at t) measure-tree.Post
-measure-tree-stopped-requires-6 t c κs = search needs
-
-measure-tree-returns-5 : (t : ℕ) → measure-tree-lts.Need-returns-5 (measure-tree-calls t) (measure-tree-at t) measure-tree.Post
-measure-tree-returns-5 t c = list-deep _ _ _ _ (c .before .before .before .before .before .record-at .ensures) _ _ _ _ _ (c .before .before .before .node3 .given .1) (c .before .if5 .taken) (c .stopped6 .ensures)
+measure-tree-enum-known-step-4 : (t : ℕ) → measure-tree-lts.Need-enum-known-step-4 (measure-tree-calls t) (measure-tree-at t) measure-tree.Post
+measure-tree-enum-known-step-4 t c = search needs
 
 measure-tree-add-measure-list : (t : ℕ) → measure-tree-lts.Need-add-measure-list (measure-tree-calls t) (measure-tree-at t) measure-tree.Post
-measure-tree-add-measure-list t c = omega (arith, list-in _ _ _ _ (c .before .before .before .before .record-at .ensures) (c .before .before .node3 .given .1))
+measure-tree-add-measure-list t c = omega (arith, step-in _ _ (c .before .before .before .before .before .args .depth) _ _ (step.List _) (c .before .before .before .step-at .ensures) (c .before .step4 .given .1))
 
 measure-tree-sub-measure-list : (t : ℕ) → measure-tree-lts.Need-sub-measure-list (measure-tree-calls t) (measure-tree-at t) measure-tree.Post
-measure-tree-sub-measure-list t c = search needs
+measure-tree-sub-measure-list t c = omega (arith, step-in _ _ (c .before .before .before .before .before .args .depth) _ _ (step.List _) (c .before .before .before .step-at .ensures) (c .before .step4 .given .1))
 
 measure-tree-measure-list-requires : (t : ℕ) → measure-tree-lts.Need-measure-list-requires (measure-tree-calls t) (measure-tree-at t) measure-tree.Post
 measure-tree-measure-list-requires t c κs =
-    let s = c .before .before .before .before .before .before in
-    let h = s .pre .1 in
-    let z = pos-of-ne-zero (c .if5 .left) in
-    let n = list-in _ _ _ _ (c .before .before .before .before .record-at .ensures) (c .before .before .node3 .given .1) in
-    (omega (arith, s .pre .0), (omega (arith, h .0), h .1, omega (arith, h .2), omega (arith, h .3), list-small _ _ _ _ (λ i. (c .before .before .before .before .before .shared-slice-known .given i) .fits) (c .before .before .before .before .record-at .ensures) (c .before .before .node3 .given .1)))
+    let h = c .before .before .before .before .before .pre .1 in
+    let n = step-in _ _ (c .before .before .before .before .before .args .depth) _ _ (step.List _) (c .before .before .before .step-at .ensures) (c .before .step4 .given .1) in
+    let hb : Bytes (c .before .before .before .before .before .args .t .now) = λ i. (c .before .before .before .before .shared-slice-known .given i) .fits in
+    (omega (arith, c .before .before .before .before .before .pre .0, n .1), (omega (arith, h .0, n .0), h .1, omega (arith, h .2, n .1), omega (arith, h .3), list-few _ (c .before .before .before .before .before .args .depth) _ _ _ hb (c .before .before .before .step-at .ensures) (c .before .step4 .given .1)))
+
+measure-tree-returns-2 : (t : ℕ) → measure-tree-lts.Need-returns-2 (measure-tree-calls t) (measure-tree-at t) measure-tree.Post
+measure-tree-returns-2 t c = at-fault _ _ _ _ (c .before .before .before .before .step-at .ensures) _ _ _ _ _ (c .before .before .step .given .1) (c .stopped .ensures)
+
+measure-tree-returns-3 : (t : ℕ) → measure-tree-lts.Need-returns-3 (measure-tree-calls t) (measure-tree-at t) measure-tree.Post
+measure-tree-returns-3 t c = at-symbol _ _ _ _ (c .before .before .before .before .step-at .ensures) _ _ _ _ _ (c .before .before .step2 .given .1) (c .atom .ensures)
+
+measure-tree-returns-4 : (t : ℕ) → measure-tree-lts.Need-returns-4 (measure-tree-calls t) (measure-tree-at t) measure-tree.Post
+measure-tree-returns-4 t c = at-integer _ _ _ _ (c .before .before .before .before .before .step-at .ensures) _ _ _ _ _ _ (c .before .before .before .enum-told .given .1) (c .before .decimal-len .ensures) (c .before .before .wide-at .ensures) (c .atom2 .ensures)
+
+measure-tree-returns-5 : (t : ℕ) → measure-tree-lts.Need-returns-5 (measure-tree-calls t) (measure-tree-at t) measure-tree.Post
+measure-tree-returns-5 t c = binding-good _ _ _ _ (c .before .before .before .before .before .before .before .before .step-at .ensures) _ _ _ _ _ _ (c .before .before .before .before .before .before .step3 .given .1) (c .before .before .before .before .measure-tree .ensures) (c .before .before .if1 .left) (refl, refl, refl, refl, refl)
 
 measure-tree-returns-6 : (t : ℕ) → measure-tree-lts.Need-returns-6 (measure-tree-calls t) (measure-tree-at t) measure-tree.Post
-measure-tree-returns-6 t c = at-bad _ _ _ _ (c .before .before .before .record-at .ensures) _ _ _ _ (c .before .enum-told .given .1) (c .stopped .ensures)
-
-measure-tree-returns-7 : (t : ℕ) → measure-tree-lts.Need-returns-7 (measure-tree-calls t) (measure-tree-at t) measure-tree.Post
-measure-tree-returns-7 t c = symbol-bad _ _ _ _ (c .before .before .before .before .before .before .record-at .ensures) _ _ _ _ _ _ (c .before .before .before .before .node .given .1) (c .before .before .is-name .ensures) (c .before .if1 .left) (c .stopped2 .ensures)
-
-measure-tree-returns-8 : (t : ℕ) → measure-tree-lts.Need-returns-8 (measure-tree-calls t) (measure-tree-at t) measure-tree.Post
-measure-tree-returns-8 t c = at-integer _ _ _ _ (c .before .before .before .record-at .ensures) _ _ _ _ (c .before .enum-told2 .given .1) (c .measure-integer .ensures)
-
-measure-tree-returns-9 : (t : ℕ) → measure-tree-lts.Need-returns-9 (measure-tree-calls t) (measure-tree-at t) measure-tree.Post
-measure-tree-returns-9 t c = binding-bad _ _ _ _ (c .before .before .before .before .before .before .before .record-at .ensures) _ _ _ _ _ _ (c .before .before .before .before .before .node2 .given .1) (c .before .before .before .if2 .left) (c .before .before .is-name2 .ensures) (c .before .if3 .left) (c .stopped5 .ensures)
-
-measure-tree-returns-10 : (t : ℕ) → measure-tree-lts.Need-returns-10 (measure-tree-calls t) (measure-tree-at t) measure-tree.Post
-measure-tree-returns-10 t c = at-list _ _ _ _ (c .before .before .before .before .before .record-at .ensures) _ _ _ _ _ (c .before .before .before .node3 .given .1) (c .before .if5 .left) (c .measure-list .ensures)
+measure-tree-returns-6 t c = at-list _ _ _ _ (c .before .before .before .before .step-at .ensures) _ _ _ _ _ (c .before .before .step4 .given .1) (c .measure-list .ensures)
 
 pub +measure-list+measure-tree-spec : {M : Type 1} → statement M
 +measure-list+measure-tree-spec = close μ-measure-list μ-measure-tree (λ t. measure-list-lts.spec (measure-list-calls t)
@@ -396,7 +375,7 @@ pub +measure-list+measure-tree-spec : {M : Type 1} → statement M
     (measure-list-mul-len t)
     (measure-list-add-len t)
     (measure-list-loop-holds t)
-    (measure-list-past-name-requires t)
+    (measure-list-past-symbol-requires t)
     (measure-list-sub-k t)
     (measure-list-sub-k-2 t)
     (measure-list-add-cost-2 t)
@@ -424,41 +403,35 @@ pub +measure-list+measure-tree-spec : {M : Type 1} → statement M
     λ t. measure-tree-lts.spec (measure-tree-calls t)
     (measure-tree-at t)
     measure-tree.Post
-    (measure-tree-record-at-requires t)
-    (measure-tree-enum-told t)
+    (measure-tree-step-at-requires t)
+    (measure-tree-enum-known-step t)
     (measure-tree-stopped-requires t)
-    (measure-tree-enum-known-node t)
-    (measure-tree-is-name-requires t)
+    (measure-tree-enum-known-step-2 t)
     (measure-tree-add-atom t)
     (measure-tree-sub-atom t)
     (measure-tree-atom-requires t)
-    (measure-tree-returns t)
-    (measure-tree-stopped-requires-2 t)
-    (measure-tree-enum-told-2 t)
-    (measure-tree-measure-integer-requires t)
-    (measure-tree-enum-known-node-2 t)
-    (measure-tree-stopped-requires-3 t)
-    (measure-tree-returns-2 t)
-    (measure-tree-is-name-requires-2 t)
+    (measure-tree-enum-told t)
+    (measure-tree-add-atom-2 t)
+    (measure-tree-add-wide-at t)
+    (measure-tree-wide-at-requires t)
+    (measure-tree-decimal-len-requires t)
+    (measure-tree-atom-requires-2 t)
+    (measure-tree-enum-known-step-3 t)
     (measure-tree-sub-n t)
     (measure-tree-add-measure-tree t)
     (measure-tree-sub-measure-tree t)
     (measure-tree-add-measure-tree-2 t)
     (measure-tree-measure-tree-requires t)
-    (measure-tree-stopped-requires-4 t)
-    (measure-tree-returns-3 t)
-    (measure-tree-add-t19 t)
-    (measure-tree-add-t20 t)
-    (measure-tree-returns-4 t)
-    (measure-tree-stopped-requires-5 t)
-    (measure-tree-enum-known-node-3 t)
-    (measure-tree-stopped-requires-6 t)
-    (measure-tree-returns-5 t)
+    (measure-tree-stopped-requires-2 t)
+    (measure-tree-returns t)
+    (measure-tree-add-t22 t)
+    (measure-tree-add-t23 t)
+    (measure-tree-enum-known-step-4 t)
     (measure-tree-add-measure-list t)
     (measure-tree-sub-measure-list t)
     (measure-tree-measure-list-requires t)
+    (measure-tree-returns-2 t)
+    (measure-tree-returns-3 t)
+    (measure-tree-returns-4 t)
+    (measure-tree-returns-5 t)
     (measure-tree-returns-6 t)
-    (measure-tree-returns-7 t)
-    (measure-tree-returns-8 t)
-    (measure-tree-returns-9 t)
-    (measure-tree-returns-10 t)

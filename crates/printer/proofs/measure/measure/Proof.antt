@@ -4,7 +4,7 @@ use Prim.Native.Nat.{_+_, _-_, _<_}
 use native.Mathlib.Omega.{arith}
 use lib.Dec.{lit≤}
 use lib.ListN.{length}
-use Rattle.printer.proofs.Walks.{Paged, too-long, paged-begin, lead-some, lead-none, paged-tree, paged-stop, paged-end}
+use Rattle.printer.proofs.Walks.{Paged, paged-long, paged-begin, lead-some, lead-none, paged-tree, paged-stop, paged-end}
 use Rattle.printer.proofs.measure.measure.Statement.{statement}
 use Rattle.printer.proofs.measure.measure.Tie as tie
 use Rattle.printer.proofs.measure.measure.Reads as reads
@@ -31,26 +31,26 @@ on c =
     (b .measure-tree .ensures) (j .before .if2 .left) e
 
 returns : tie.Need-returns Inv-loop μ-loop
-returns c = too-long _ _ (c .if1 .taken)
+returns c = paged-long _ _ (c .if1 .taken)
 
 loop-holds : tie.Need-loop-holds Inv-loop μ-loop
 loop-holds c = paged-begin _ _ (c .if1 .left)
 
 measure-tree-requires : tie.Need-measure-tree-requires Inv-loop μ-loop
-measure-tree-requires c κs = let g = c .before .loop .inv in (g .within, g .limit, lit≤ tt, omega arith)
+measure-tree-requires c κs = let g = c .before .loop .inv in (g .read .within, g .read .limit, lit≤ tt, omega arith)
 
 returns-2 : tie.Need-returns-2 Inv-loop μ-loop
 returns-2 c =
     paged-stop _ _ _ _ (c .before .before .before .before .loop .inv) _ (c .before .before .before .loop-test .taken) (c .before .before .measure-tree .ensures) (c .if2 .taken)
 
 add-w : tie.Need-add-w Inv-loop μ-loop
-add-w c = let g = c .before .before .before .before .before .loop .inv in omega (arith, g .size, g .within, g .limit)
+add-w c = let g = c .before .before .before .before .before .loop .inv in omega (arith, g .size, g .read .within, g .read .limit)
 
 add-w-2 : tie.Need-add-w-2 Inv-loop μ-loop
-add-w-2 c = let g = on c .1 in omega (arith, g .size, g .within, g .limit)
+add-w-2 c = let g = on c .1 in omega (arith, g .size, g .read .within, g .read .limit)
 
 add-w-3 : tie.Need-add-w-3 Inv-loop μ-loop
-add-w-3 c = let g = on c .1 in omega (arith, g .size, g .within, g .limit)
+add-w-3 c = let g = on c .1 in omega (arith, g .size, g .read .within, g .read .limit)
 
 loop-less : tie.Need-loop-less Inv-loop μ-loop
 loop-less c = omega (arith, on c .0, c .before .before .before .before .before .before .loop-test .taken)
