@@ -13,9 +13,10 @@ use Rattle.refusals.specs.Numbers.{openComment}
 use Rattle.classes.specs.declared.Class.{Class}
 use Rattle.classes.specs.declared.Class.the-variants.{Space, LineEnd, Semicolon, LParen, RParen, AtSign, FormFeed, Minus, Digit, Other}
 use Rattle.classes.specs.Classes.{classOf, lparen, rparen, semicolon}
-use Rattle.lexer.specs.Tokens.{Answer, refused}
+use Rattle.refusals.specs.Result.{refused}
+use Rattle.lexer.specs.Tokens.{Answer}
 use Rattle.lexer.specs.Lexing.{Skip, InBlock, Skipping, One, Two, leave, skip, lexIn}
-use Rattle.lexer.specs.Code.{markOf}
+use Rattle.lexer.specs.PrivateBlocks.{markOf}
 use Rattle.lexer.specs.declared.Mark.{Mark}
 use Rattle.lexer.specs.declared.Mark.the-variants.{Opener, Closer, Neither}
 

@@ -11,10 +11,11 @@ use lib.ListN.{length, getD, drop, drop-of-length-le}
 use lib.Seq.{getD-drop, drop-drop}
 use Rattle.lists.proofs.Places.{from, first}
 use Rattle.refusals.specs.Numbers.{formFeed}
+use Rattle.refusals.specs.Result.{ok, refused}
 use Rattle.classes.specs.declared.Class.{Class}
 use Rattle.classes.specs.declared.Class.the-variants.{Space, LineEnd, Semicolon, LParen, RParen, AtSign, FormFeed, Minus, Digit, Other}
 use Rattle.classes.specs.Classes.{classOf, semicolon}
-use Rattle.lexer.specs.Tokens.{Answer, end, is, refused, token, lparen, rparen, at-sign, symbol}
+use Rattle.lexer.specs.Tokens.{Answer, end, is, token, lparen, rparen, at-sign, symbol}
 use Rattle.lexer.specs.Literals.{radixOf, digitsIn, unsignedIn}
 use Rattle.lexer.specs.Lexing.{Between, InLine, InBlock, skip, symbolEnd, lexIn, lexAt}
 
@@ -29,7 +30,7 @@ unsigned-placed s minus st at =
     rw (first s at, getD-drop at s 1 0, drop-drop 2 at s, two) refl
 
 module _ (s : List ℕ) (i : ℕ) where
-  pub lex-past : length s ≤ i → lexAt s i ≡ end
+  pub lex-past : length s ≤ i → lexAt s i ≡ ok end
   unfolding lexIn
   lex-past h = rw (drop-of-length-le s h)
 
@@ -54,15 +55,15 @@ module _ (s : List ℕ) (i : ℕ) where
         let places : suc (suc i) ≡ i + 2 = omega arith in
         rw (← two, from s i h, lexIn, e, first s (i + 1), f, from s (i + 1) k) (ap (lexIn 0 (InBlock 1 i) (drop (i + 1 + 1) s)) (places ∙ sym two))
 
-    pub lex-lparen : classOf (getD s i 0) ≡ LParen → semicolon (classOf (getD s (i + 1) 0)) ≡ false → lexAt s i ≡ is (token lparen i 1)
+    pub lex-lparen : classOf (getD s i 0) ≡ LParen → semicolon (classOf (getD s (i + 1) 0)) ≡ false → lexAt s i ≡ ok (is (token lparen i 1))
     unfolding lexIn skip
     lex-lparen e f = rw (from s i h, lexIn, e, first s (i + 1), f) refl
 
-    pub lex-rparen : classOf (getD s i 0) ≡ RParen → lexAt s i ≡ is (token rparen i 1)
+    pub lex-rparen : classOf (getD s i 0) ≡ RParen → lexAt s i ≡ ok (is (token rparen i 1))
     unfolding lexIn skip
     lex-rparen e = rw (from s i h, e) refl
 
-    pub lex-at-sign : classOf (getD s i 0) ≡ AtSign → lexAt s i ≡ is (token at-sign i 1)
+    pub lex-at-sign : classOf (getD s i 0) ≡ AtSign → lexAt s i ≡ ok (is (token at-sign i 1))
     unfolding lexIn skip
     lex-at-sign e = rw (from s i h, e) refl
 
@@ -78,6 +79,6 @@ module _ (s : List ℕ) (i : ℕ) where
     unfolding lexIn skip
     lex-digit e = rw (from s i h, e) refl
 
-    pub lex-other : classOf (getD s i 0) ≡ Other → lexAt s i ≡ is (token symbol i (symbolEnd (drop (i + 1) s) (i + 1) - i))
+    pub lex-other : classOf (getD s i 0) ≡ Other → lexAt s i ≡ ok (is (token symbol i (symbolEnd (drop (i + 1) s) (i + 1) - i)))
     unfolding lexIn skip
-    lex-other e = rw (from s i h, e) (ap (λ (p : ℕ). is (token symbol i (symbolEnd (drop (i + 1) s) p - i))) (sym (add-one i)))
+    lex-other e = rw (from s i h, e) (ap (λ (p : ℕ). ok (is (token symbol i (symbolEnd (drop (i + 1) s) p - i)))) (sym (add-one i)))

@@ -17,6 +17,7 @@ use borrow.Author.Tests.{ltb-true, ltb-false, leb-true, le-leb, eqb-true}
 use Rattle.lists.proofs.Places.{next, first}
 use Rattle.lists.proofs.Choice.{pick, and-left, and-right, or-right, true-false}
 use Rattle.refusals.specs.Numbers.{sourceLimit, tooLong, pastSource}
+use Rattle.refusals.specs.Result.{ok, refused}
 use Rattle.classes.specs.declared.Class.{Class}
 use Rattle.classes.specs.declared.Class.the-variants.{Space, LineEnd, Semicolon, LParen, RParen, AtSign, FormFeed, Minus, Digit, Other}
 use Rattle.classes.specs.Classes.{classOf, digitOf, literalByte, symbolOther}
@@ -24,7 +25,7 @@ use Rattle.wide.specs.Value.{val, split, grown, Integer, is as isInteger, refus
 use Rattle.wide.specs.declared.Grown.{Grown}
 use Rattle.wide.specs.declared.Grown.the-variants.{Fits, Over as Above}
 use Rattle.wide.proofs.TwoLimbs.{split-val}
-use Rattle.lexer.specs.Tokens.{Kind, lparen, rparen, at-sign, symbol, int, Token, token, past, Answer, end, is, refused}
+use Rattle.lexer.specs.Tokens.{Kind, lparen, rparen, at-sign, symbol, int, Token, token, past, Answer, end, is}
 use Rattle.lexer.specs.Literals.{Reading, Empty, Foreign, Over, Number, grew, taken, digit, grow, reading, literalEnd, radixOf, signed, concluded, digitsIn, unsignedIn}
 use Rattle.lexer.specs.Lexing.{Skip, Between, InLine, InBlock, Skipping, Stop, One, Two, skip, symbolEnd, tokenIn, ended, skipped, lexIn, lexAt, nextToken}
 
@@ -45,14 +46,14 @@ pub record Lies (s : List ℕ) (p : ℕ) (t : Token) : Type 0 where
   pub shaped : Shaped s (t .start) (t .size) (t .kind)
 
 abbrev LiesIn : List ℕ → ℕ → Answer → Type 0
-LiesIn s p end = Unit {0}
+LiesIn s p (ok end) = Unit {0}
 LiesIn s p (refused n a) = Unit {0}
-LiesIn s p (is t) = Lies s p t
+LiesIn s p (ok (is t)) = Lies s p t
 
 sooner : (s : List ℕ) (p q : ℕ) (a : Answer) → p ≤ q → LiesIn s q a → LiesIn s p a
-sooner s p q end h l = tt
+sooner s p q (ok end) h l = tt
 sooner s p q (refused n a) h l = tt
-sooner s p q (is t) h l = record { from = omega (arith, l .from); some = l .some; to = l .to; shaped = l .shaped }
+sooner s p q (ok (is t)) h l = record { from = omega (arith, l .from); some = l .some; to = l .to; shaped = l .shaped }
 
 -- where the rest of a source begins with a byte, it has one
 inside : (s : List ℕ) (p b : ℕ) (l : List ℕ) → drop p s ≡ b ∷ l → p + suc (length l) ≡ length s
@@ -221,16 +222,16 @@ unfolding nextToken
 next-in s p =
     pick (LiesIn s p) (ltb sourceLimit (length s)) (λ _. tt) (λ _. pick (LiesIn s p) (ltb (length s) p) (λ _. tt) (λ _. lex-in s (drop p s) 0 Between p refl))
 
-pub within : (s : List ℕ) (p : ℕ) (t : Token) → nextToken s p ≡ is t → Lies s p t
+pub within : (s : List ℕ) (p : ℕ) (t : Token) → nextToken s p ≡ ok (is t) → Lies s p t
 within s p t e = subst (LiesIn s p) e (next-in s p)
 
 -- a source with a token is not too long, and the place is not past it
-pub limited : (s : List ℕ) (p : ℕ) (t : Token) → nextToken s p ≡ is t → length s ≤ sourceLimit
+pub limited : (s : List ℕ) (p : ℕ) (t : Token) → nextToken s p ≡ ok (is t) → length s ≤ sourceLimit
 unfolding nextToken
 limited s p t e = by (ltb sourceLimit (length s)) refl e
   where
     by : (b : Bool) → ltb sourceLimit (length s) ≡ b
-        → cond b (refused tooLong sourceLimit) (cond (ltb (length s) p) (refused pastSource (length s)) (lexAt s p)) ≡ is t → length s ≤ sourceLimit
+        → cond b (refused tooLong sourceLimit) (cond (ltb (length s) p) (refused pastSource (length s)) (lexAt s p)) ≡ ok (is t) → length s ≤ sourceLimit
     by true f k = let z : _≡_ {A = ℕ} 0 1 = cc in absurd (omega arith)
     by false f k = ltb-false sourceLimit (length s) f
 
@@ -269,7 +270,7 @@ class-digit b =
     (λ _. pick (IfDigit b) (eqb b 45) (λ _. tt)
     (λ _. pick (IfDigit b) (leb 48 b && leb b 57) (digit-literal b) (λ _. tt)))))))))
 
-pub apart : (s : List ℕ) (p : ℕ) (t u : Token) (y z : ℤ) → nextToken s p ≡ is t → nextToken s (past t) ≡ is u → t .kind ≡ int y → u .kind ≡ int z
+pub apart : (s : List ℕ) (p : ℕ) (t u : Token) (y z : ℤ) → nextToken s p ≡ ok (is t) → nextToken s (past t) ≡ ok (is u) → t .kind ≡ int y → u .kind ≡ int z
     → past t + 2 ≤ past u
 apart s p t u y z e f ky kz = by (u .start) (u .size) (lu .from) (lu .some) (subst (Shaped s (u .start) (u .size)) kz (lu .shaped))
   where

@@ -5,10 +5,11 @@ use mathlib.Core.Bool.{Bool, true, false, cond, _&&_}
 use lib.Dec.{leb, ltb}
 use lib.ListN.{length, getD, drop}
 use Rattle.refusals.specs.Numbers.{sourceLimit, tooLong, pastSource, formFeed, openComment}
+use Rattle.refusals.specs.Result.{ok, refused}
 use Rattle.classes.specs.declared.Class.{Class}
 use Rattle.classes.specs.declared.Class.the-variants.{Space, LineEnd, Semicolon, LParen, RParen, AtSign, FormFeed, Minus, Digit, Other}
 use Rattle.classes.specs.Classes.{classOf, blank, lineEnd, semicolon, lparen, rparen, symbolOther}
-use Rattle.lexer.specs.Tokens.{Kind, lparen as openParen, rparen as closeParen, at-sign, symbol, token, Answer, end, is, refused}
+use Rattle.lexer.specs.Tokens.{Kind, lparen as openParen, rparen as closeParen, at-sign, symbol, token, Answer, end, is}
 use Rattle.lexer.specs.Literals.{unsignedIn}
 
 -- what is being skipped: blanks, a line comment, or block comments of a depth whose outermost opener is at a place
@@ -43,21 +44,21 @@ symbolEnd (b ∷ s) i = cond (symbolOther (classOf b)) (symbolEnd s (suc i)) i
 
 -- the token that begins with the byte b of class c at i, before s; blanks and comments begin none
 abbrev pub tokenIn : Class → ℕ → List ℕ → ℕ → Answer
-tokenIn LParen b s i = is (token openParen i 1)
-tokenIn RParen b s i = is (token closeParen i 1)
-tokenIn AtSign b s i = is (token at-sign i 1)
+tokenIn LParen b s i = ok (is (token openParen i 1))
+tokenIn RParen b s i = ok (is (token closeParen i 1))
+tokenIn AtSign b s i = ok (is (token at-sign i 1))
 tokenIn FormFeed b s i = refused formFeed i
 tokenIn Minus b s i = unsignedIn true i s (suc i)
 tokenIn Digit b s i = unsignedIn false i (b ∷ s) i
-tokenIn Other b s i = is (token symbol i (symbolEnd s (suc i) - i))
-tokenIn Space b s i = end
-tokenIn LineEnd b s i = end
-tokenIn Semicolon b s i = end
+tokenIn Other b s i = ok (is (token symbol i (symbolEnd s (suc i) - i)))
+tokenIn Space b s i = ok end
+tokenIn LineEnd b s i = ok end
+tokenIn Semicolon b s i = ok end
 
 -- the source's end
 abbrev pub ended : Skip → Answer
-ended Between = end
-ended InLine = end
+ended Between = ok end
+ended InLine = ok end
 ended (InBlock d p) = refused openComment p
 
 abbrev pub skipped : Skipping → Answer → (Skip → Answer) → (Skip → Answer) → Answer

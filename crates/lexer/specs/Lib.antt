@@ -2,5 +2,5 @@ pub mod Tokens
 pub mod Literals
 pub mod Lexing
 pub mod Streams
-pub mod Said
-pub mod Code
+pub mod BareTokens
+pub mod PrivateBlocks

@@ -5,11 +5,12 @@ use mathlib.Core.Bool.{Bool, true, false, cond, _&&_, _||_}
 use lib.Dec.{eqb, leb}
 use lib.ListN.{drop, getD}
 use Rattle.refusals.specs.Numbers.{noDigits, foreignDigit, tooLarge, minusLowest}
+use Rattle.refusals.specs.Result.{ok, refused}
 use Rattle.classes.specs.Classes.{digitOf, literalByte}
 use Rattle.wide.specs.declared.Grown.{Grown}
 use Rattle.wide.specs.declared.Grown.the-variants.{Fits, Over as Above}
 use Rattle.wide.specs.Value.{val, grown, Integer, is as isInteger, refused as noInteger, integerOf}
-use Rattle.lexer.specs.Tokens.{Answer, is, refused, token, int}
+use Rattle.lexer.specs.Tokens.{Answer, is, token, int}
 pub use Rattle.lexer.specs.declared.literal.Reading.{Reading}
 pub use Rattle.lexer.specs.declared.literal.Reading.the-variants.{Empty, Foreign, Over, Number}
 
@@ -48,7 +49,7 @@ radixOf b c =
     cond (eqb b 48) (cond (eqb c 120 || eqb c 88) 16 (cond (eqb c 111 || eqb c 79) 8 (cond (eqb c 98 || eqb c 66) 2 10))) 10
 
 abbrev pub signed : ℕ → ℕ → Integer → Answer
-signed st e (isInteger z) = is (token (int z) st (e - st))
+signed st e (isInteger z) = ok (is (token (int z) st (e - st)))
 signed st e noInteger = refused minusLowest st
 
 -- the answer for a literal from st up to e: every refusal of a literal names its start

@@ -1,6 +1,7 @@
 -- Tokens and answers (document 01, 'How source becomes tokens'), and what each case of the lexer's enums stands for.
 use Prim.Native.Nat.{ℕ, _+_}
 use lib.IntN.{ℤ}
+use Rattle.refusals.specs.Result.{Result, ok, refusedBy}
 use Rattle.wide.specs.Value.{value}
 use Rattle.lexer.specs.declared.Token.{Token as CodeToken}
 use Rattle.lexer.specs.declared.Token.the-variants as code
@@ -24,11 +25,13 @@ token k s n = record { kind = k; start = s; size = n }
 abbrev pub past : Token → ℕ
 past t = t .start + t .size
 
--- the next token, the end, or a refusal's number and place
-pub data Answer : Type 0 where
-  end : Answer
-  is : Token → Answer
-  refused : ℕ → ℕ → Answer
+-- the next token, or the end
+pub data Next : Type 0 where
+  end : Next
+  is : Token → Next
+
+abbrev pub Answer : Type 0
+Answer = Result Next
 
 -- document 01's values for each case of the token's enum, at a start
 abbrev pub tokenOf : CodeToken → ℕ → Token
@@ -40,6 +43,6 @@ tokenOf (code.Int w n) s = token (int (value w)) s n
 
 -- document 01's number and values for each case of the answer's enum
 abbrev pub answerOf : Lexed → Answer
-answerOf lexed.End = end
-answerOf (lexed.Token t s) = is (tokenOf t s)
-answerOf (lexed.Refused r) = refused (r .number) (r .place)
+answerOf lexed.End = ok end
+answerOf (lexed.Token t s) = ok (is (tokenOf t s))
+answerOf (lexed.Refused r) = refusedBy r

@@ -13,7 +13,7 @@ ghost use Rattle.refusals.specs.Numbers.{sourceLimit};
 ghost use Rattle.lexer.specs.Tokens.{answerOf};
 ghost use Rattle.lexer.specs.Literals.{unsignedIn};
 ghost use Rattle.lexer.specs.Lexing.{Between, InLine, InBlock, symbolEnd, lexIn, lexAt, nextToken};
-ghost use Rattle.lexer.specs.Code.{markOf, blockLeft, Beyond};
+ghost use Rattle.lexer.specs.PrivateBlocks.{markOf, blockLeft, Beyond};
 
 pub enum Token {
     LParen,

@@ -10,7 +10,7 @@ use borrow.Author.Tests.{le-leb, lt-leb}
 use Rattle.classes.specs.Classes.{classOf}
 use Rattle.lexer.specs.declared.Mark.{Mark}
 use Rattle.lexer.specs.Lexing.{InBlock, lexIn, leave}
-use Rattle.lexer.specs.Code.{markOf}
+use Rattle.lexer.specs.PrivateBlocks.{markOf}
 use Rattle.lexer.proofs.Comments.{two-open, two-close, block-past, block-open, block-close, block-go}
 use Rattle.lexer.proofs.block_end.Statement.{statement}
 use Rattle.lexer.proofs.block_end.Tie as tie

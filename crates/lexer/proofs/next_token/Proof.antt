@@ -14,7 +14,7 @@ use Rattle.lexer.specs.declared.Block.{Block}
 use Rattle.lexer.specs.Lexing.{InBlock, lexIn, lexAt, nextToken}
 use Rattle.lexer.specs.Tokens.{answerOf}
 use Rattle.refusals.specs.Numbers.{sourceLimit}
-use Rattle.lexer.specs.Code.{blockLeft, Beyond}
+use Rattle.lexer.specs.PrivateBlocks.{blockLeft, Beyond}
 use Rattle.lexer.proofs.Starts.{lex-past, lex-space, lex-line-end, lex-semicolon, lex-block, lex-lparen, lex-rparen, lex-at-sign, lex-form-feed, lex-minus, lex-digit, lex-other}
 use Rattle.lexer.proofs.next_token.Statement.{statement}
 use Rattle.lexer.proofs.next_token.Tie as tie

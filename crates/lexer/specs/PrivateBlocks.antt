@@ -1,12 +1,13 @@
--- What the lexer's private enums stand for: two bytes of a block comment, and where it ends.
+-- Private, for the contracts of the lexer's own functions: what its enums stand for, two bytes of a block comment, and where it ends.
 use Prim.Native.Nat.{ℕ, _+_, _≤_}
 use mathlib.Core.List.{List}
 use mathlib.Core.Bool.{cond, _&&_}
 use lib.ListN.{drop}
 use Rattle.refusals.specs.Numbers.{openComment}
+use Rattle.refusals.specs.Result.{refused}
 use Rattle.classes.specs.declared.Class.{Class}
 use Rattle.classes.specs.Classes.{lparen, rparen, semicolon}
-use Rattle.lexer.specs.Tokens.{Answer, refused}
+use Rattle.lexer.specs.Tokens.{Answer}
 use Rattle.lexer.specs.Lexing.{Between, lexAt}
 use Rattle.lexer.specs.declared.Mark.{Mark}
 use Rattle.lexer.specs.declared.Mark.the-variants.{Opener, Closer, Neither}
