@@ -11,6 +11,7 @@ use borrow.Author.Tests.{lt-ltb, ne-eqb, eqb-true}
 use Rattle.lists.proofs.Choice.{true-false}
 use Rattle.lists.proofs.Each.{agree}
 use Rattle.refusals.specs.Numbers.{sourceLimit}
+use Rattle.refusals.specs.Result.{ok}
 use Rattle.classes.specs.declared.Class.{Class}
 use Rattle.classes.specs.declared.Class.the-variants.{Space, LineEnd, Semicolon, LParen, RParen, AtSign, FormFeed, Minus, Digit, Other}
 use Rattle.classes.specs.Classes.{classOf, blank, semicolon, symbolFirst}
@@ -19,7 +20,7 @@ use Rattle.lexer.specs.declared.Token.{Token as CodeToken}
 use Rattle.lexer.specs.declared.Token.the-variants as code
 use Rattle.lexer.specs.Tokens.{token, tokenOf, lparen as openParen}
 use Rattle.feeder.specs.Machine.{Mode, Blank, Line, Opener, Symbol, Sign, Block, Zero, Digits, Go, Take, inBlank, turn}
-use Rattle.feeder.specs.Code.{call, moved, outside, tokenBy, Ran, Shown}
+use Rattle.feeder.specs.PrivateRuns.{call, moved, outside, tokenBy, Ran, Shown}
 use Rattle.feeder.specs.declared.glance.Seen.{Seen}
 use Rattle.feeder.specs.declared.runs.Moved.the-variants.{Give}
 use Rattle.feeder.proofs.Calls.{call-go, call-stay, call-take}
@@ -58,7 +59,7 @@ above-symbol : (b n : ℕ) → 64 < b → tokenBy b n ≡ code.Symbol n
 above-symbol b n h = rw (ne-eqb b 40 (λ (e : b ≡ 40). omega arith), ne-eqb b 41 (λ (e : b ≡ 41). omega arith), ne-eqb b 64 (λ (e : b ≡ 64). omega arith)) refl
 
 -- what a blank, `)`, `@` and `(` do outside of tokens and comments
-blank-goes : (c : Class) (p b : ℕ) → blank c ≡ true → inBlank c p b ≡ Go Blank
+blank-goes : (c : Class) (p b : ℕ) → blank c ≡ true → inBlank c p b ≡ ok (Go Blank)
 blank-goes Space p b e = refl
 blank-goes LineEnd p b e = refl
 blank-goes Semicolon p b e = true-false (sym e)
@@ -70,15 +71,15 @@ blank-goes Minus p b e = true-false (sym e)
 blank-goes Digit p b e = true-false (sym e)
 blank-goes Other p b e = true-false (sym e)
 
-takes : (b n p : ℕ) → (eqb b 41 || eqb b 64) ≡ true → inBlank (classOf b) p b ≡ Take (tokenOf (tokenBy b n) p)
+takes : (b n p : ℕ) → (eqb b 41 || eqb b 64) ≡ true → inBlank (classOf b) p b ≡ ok (Take (tokenOf (tokenBy b n) p))
 unfolding classOf
 takes b n p e = by (eqb b 41) refl e
   where
-    by : (t : Bool) → eqb b 41 ≡ t → (t || eqb b 64) ≡ true → inBlank (classOf b) p b ≡ Take (tokenOf (tokenBy b n) p)
+    by : (t : Bool) → eqb b 41 ≡ t → (t || eqb b 64) ≡ true → inBlank (classOf b) p b ≡ ok (Take (tokenOf (tokenBy b n) p))
     by true f e = rw (eqb-true b 41 f) refl
     by false f e = rw (eqb-true b 64 e) refl
 
-opens : (b p : ℕ) → b ≡ 40 → inBlank (classOf b) p b ≡ Go (Opener p)
+opens : (b p : ℕ) → b ≡ 40 → inBlank (classOf b) p b ≡ ok (Go (Opener p))
 unfolding classOf
 opens b p e = rw e refl
 
@@ -88,7 +89,7 @@ none-shown q stop z = absurd (not-suc-le-zero z)
 
 -- up to j there are blanks alone
 module _ (q : List ℕ) (j stop : ℕ) (h : j < stop) (w : stop ≤ length q) (kept : (p : ℕ) → p + stop ≤ sourceLimit → call q p j Blank ≡ call q p 0 Blank) where
-  goes : (m : Mode) (p : ℕ) → p + stop ≤ sourceLimit → inBlank (classOf (getD q j 0)) (p + j) (getD q j 0) ≡ Go m → call q p (j + 1) m ≡ call q p 0 Blank
+  goes : (m : Mode) (p : ℕ) → p + stop ≤ sourceLimit → inBlank (classOf (getD q j 0)) (p + j) (getD q j 0) ≡ ok (Go m) → call q p (j + 1) m ≡ call q p 0 Blank
   unfolding turn
   goes m p l e = sym (call-go q p j Blank (omega arith) (omega arith) m e) ∙ kept p l
 

@@ -2,8 +2,9 @@
 use Prim.Native.Nat.{ℕ, suc}
 use mathlib.Core.List.{List, [], _∷_}
 use Rattle.refusals.specs.Numbers.{fedAfterClose}
-use Rattle.lexer.specs.Tokens.{Token, Answer, end, is, refused, tokenOf}
-use Rattle.feeder.specs.Machine.{Mode, Blank, Turn, Go, Stay, Take, Halt, step, closing}
+use Rattle.refusals.specs.Result.{Result, ok, refused, refusedBy}
+use Rattle.lexer.specs.Tokens.{Token, Answer, end, is, tokenOf}
+use Rattle.feeder.specs.Machine.{Mode, Blank, Turn, Go, Stay, Take, step, closing}
 use Rattle.feeder.specs.declared.Phase.{Phase}
 use Rattle.feeder.specs.declared.Phase.the-variants.{Live, Closed, Refused}
 use Rattle.feeder.specs.declared.State.{State}
@@ -11,19 +12,18 @@ use Rattle.feeder.specs.declared.Answer.{Answer as CodeAnswer}
 use Rattle.feeder.specs.declared.Answer.the-variants as code
 use Rattle.feeder.specs.declared.Fed.{Fed as CodeFed}
 
--- a call answers a token, "more", the end, or a refusal's number and place
+-- a call that is not refused answers "more", the end, or a token
 pub data Reply : Type 0 where
   more finish : Reply
   ready : Token → Reply
-  refuse : ℕ → ℕ → Reply
 
 -- always with the bytes consumed and the new state
 pub record Fed : Type 0 where
-  pub reply : Reply
+  pub reply : Result Reply
   pub used : ℕ
   pub state : State
 
-abbrev pub fed : Reply → ℕ → State → Fed
+abbrev pub fed : Result Reply → ℕ → State → Fed
 fed a n s = record { reply = a; used = n; state = s }
 
 -- at work at a place; closed there; refused there, with the refusal that every later call gives again
@@ -45,46 +45,46 @@ abbrev pub plus : Fed → Fed
 plus f = fed (f .reply) (suc (f .used)) (f .state)
 
 -- a turn at p; the bytes after its byte go on by `rest`
-abbrev pub stepped : Turn → ℕ → (Mode → Fed) → Fed
-stepped (Go m) p rest = plus (rest m)
-stepped (Stay t) p rest = fed (ready t) 0 (live Blank p)
-stepped (Take t) p rest = fed (ready t) 1 (live Blank (suc p))
-stepped (Halt n a) p rest = fed (refuse n a) 0 (dead n a p)
+abbrev pub stepped : Result Turn → ℕ → (Mode → Fed) → Fed
+stepped (ok (Go m)) p rest = plus (rest m)
+stepped (ok (Stay t)) p rest = fed (ok (ready t)) 0 (live Blank p)
+stepped (ok (Take t)) p rest = fed (ok (ready t)) 1 (live Blank (suc p))
+stepped (refused n a) p rest = fed (refused n a) 0 (dead n a p)
 
 -- a live state is fed a piece
 unfoldable pub feedFrom : Mode → ℕ → List ℕ → Fed
-feedFrom m p [] = fed more 0 (live m p)
+feedFrom m p [] = fed (ok more) 0 (live m p)
 feedFrom m p (b ∷ bs) = stepped (step m p b) p (λ k. feedFrom k (suc p) bs)
 
 -- after a close feeding is refused, and after a refusal it is refused again; nothing is consumed and the state stays
 abbrev pub feedIn : Phase → ℕ → List ℕ → Fed
 feedIn (Live m) p bs = feedFrom m p bs
-feedIn Closed p bs = fed (refuse fedAfterClose p) 0 (closed p)
-feedIn (Refused r) p bs = fed (refuse (r .number) (r .place)) 0 (record { phase = Refused r; place = p })
+feedIn Closed p bs = fed (refused fedAfterClose p) 0 (closed p)
+feedIn (Refused r) p bs = fed (refusedBy r) 0 (record { phase = Refused r; place = p })
 
 unfoldable pub feedOf : State → List ℕ → Fed
 feedOf s bs = feedIn (s .phase) (s .place) bs
 
 -- the first close
 abbrev pub shut : Answer → ℕ → Fed
-shut end p = fed finish 0 (closed p)
-shut (is t) p = fed (ready t) 0 (closed p)
-shut (refused n a) p = fed (refuse n a) 0 (dead n a p)
+shut (ok end) p = fed (ok finish) 0 (closed p)
+shut (ok (is t)) p = fed (ok (ready t)) 0 (closed p)
+shut (refused n a) p = fed (refused n a) 0 (dead n a p)
 
 abbrev pub closeIn : Phase → ℕ → Fed
 closeIn (Live m) p = shut (closing m p) p
-closeIn Closed p = fed finish 0 (closed p)
-closeIn (Refused r) p = fed (refuse (r .number) (r .place)) 0 (record { phase = Refused r; place = p })
+closeIn Closed p = fed (ok finish) 0 (closed p)
+closeIn (Refused r) p = fed (refusedBy r) 0 (record { phase = Refused r; place = p })
 
 unfoldable pub closeOf : State → Fed
 closeOf s = closeIn (s .phase) (s .place)
 
 -- document 01's number and values for each case of the answer's enum
-abbrev pub replyOf : CodeAnswer → Reply
-replyOf code.More = more
-replyOf code.End = finish
-replyOf (code.Token t s) = ready (tokenOf t s)
-replyOf (code.Refused r) = refuse (r .number) (r .place)
+abbrev pub replyOf : CodeAnswer → Result Reply
+replyOf code.More = ok more
+replyOf code.End = ok finish
+replyOf (code.Token t s) = ok (ready (tokenOf t s))
+replyOf (code.Refused r) = refusedBy r
 
 -- what a call returned
 abbrev pub fedOf : CodeFed → Fed

@@ -1,3 +1,3 @@
 pub mod Machine
 pub mod Feeding
-pub mod Code
+pub mod PrivateRuns

@@ -5,7 +5,7 @@ use crate::runs::Moved;
 ghost use mathlib.Core.Path.{_≡_};
 ghost use Rattle.classes.specs.Classes.{classOf};
 ghost use Rattle.feeder.specs.Machine.{Block, half};
-ghost use Rattle.feeder.specs.Code.{call, moved, Further, Span, insideOf};
+ghost use Rattle.feeder.specs.PrivateRuns.{call, moved, Further, Span, insideOf};
 
 // A block comment is left, or goes on at a depth.
 pub enum Inside {

@@ -3,7 +3,7 @@ use lexer::Token;
 ghost use mathlib.Core.Path.{_≡_};
 ghost use Prim.Native.Nat.{_≤_, _<_};
 ghost use lib.ListN.{length};
-ghost use Rattle.feeder.specs.Code.{tokenBy, Ran, Shown};
+ghost use Rattle.feeder.specs.PrivateRuns.{tokenBy, Ran, Shown};
 
 // A token's bytes in the piece, from `start` up to `end`; an end of 0 says that none was seen.
 pub struct Seen {

@@ -7,7 +7,7 @@ use refusals::Refusal;
 use wide::Limbs;
 ghost use mathlib.Core.Path.{_≡_};
 ghost use Rattle.feeder.specs.Machine.{Sign, Zero, Digits, begun};
-ghost use Rattle.feeder.specs.Code.{call, moved, Further, Span, endedOf};
+ghost use Rattle.feeder.specs.PrivateRuns.{call, moved, Further, Span, endedOf};
 
 // What is held ends before the byte at i, as the source's end would end it.
 fn ended(last: Lexed, i: usize) -> Moved

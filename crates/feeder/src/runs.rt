@@ -22,7 +22,7 @@ ghost use lib.ListN.{length};
 ghost use Rattle.refusals.specs.Numbers.{sourceLimit};
 ghost use Rattle.feeder.specs.Machine.{Blank, Line, Opener, Symbol};
 ghost use Rattle.feeder.specs.Feeding.{feedFrom, fedOf};
-ghost use Rattle.feeder.specs.Code.{call, moved, Further, Span, outside};
+ghost use Rattle.feeder.specs.PrivateRuns.{call, moved, Further, Span, outside};
 
 // Where a run ends: in a mode before a byte of the piece; with a token or a refusal, and the bytes consumed.
 pub enum Moved {

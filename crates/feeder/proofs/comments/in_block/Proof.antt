@@ -5,9 +5,10 @@ use native.Mathlib.Omega.{arith}
 use borrow.Author.Needs.{needs}
 use lib.ListN.{getD}
 use denote.Ref.{now}
-use Rattle.feeder.specs.Code.{call}
+use Rattle.feeder.specs.PrivateRuns.{call}
 use Rattle.classes.specs.Classes.{classOf}
-use Rattle.feeder.specs.Machine.{Blank, Block, Go, inBlock, turn}
+use Rattle.refusals.specs.Result.{ok}
+use Rattle.feeder.specs.Machine.{Mode, Blank, Block, Go, inBlock, turn}
 use Rattle.feeder.proofs.Calls.{call-go, modeOf, inside-is}
 use Rattle.feeder.proofs.comments.in_block.Statement.{statement}
 use Rattle.feeder.proofs.comments.in_block.Tie as tie
@@ -44,7 +45,7 @@ returns c =
     let u = c .before .before in
     let t = u .before .before .before in
     let a = t .before .before .args in
-    ((omega arith, omega arith), sym (call-go (now (a .piece)) (a .place) (t .loop .j) (Block (a .start) (t .loop .d) (t .loop .h)) (omega arith) (omega arith) Blank (ap Go (told u ∙ ap (modeOf (a .start)) (c .enum-told .given .1)))) ∙ t .loop .inv .2)
+    ((omega arith, omega arith), sym (call-go (now (a .piece)) (a .place) (t .loop .j) (Block (a .start) (t .loop .d) (t .loop .h)) (omega arith) (omega arith) Blank (ap (λ (m : Mode). ok (Go m)) (told u ∙ ap (modeOf (a .start)) (c .enum-told .given .1)))) ∙ t .loop .inv .2)
 
 enum-known-e : tie.Need-enum-known-e Inv-loop μ-loop
 enum-known-e c = search needs
@@ -61,7 +62,7 @@ loop-again c =
     let u = c .before .before .before in
     let t = u .before .before .before in
     let a = t .before .before .args in
-    (omega arith, omega arith, sym (call-go (now (a .piece)) (a .place) (t .loop .j) (Block (a .start) (t .loop .d) (t .loop .h)) (omega arith) (omega arith) (Block (a .start) (c .before .e .given .0 .0) (c .before .e .given .0 .1 .0)) (ap Go (told u ∙ ap (modeOf (a .start)) (c .before .e .given .1)))) ∙ t .loop .inv .2)
+    (omega arith, omega arith, sym (call-go (now (a .piece)) (a .place) (t .loop .j) (Block (a .start) (t .loop .d) (t .loop .h)) (omega arith) (omega arith) (Block (a .start) (c .before .e .given .0 .0) (c .before .e .given .0 .1 .0)) (ap (λ (m : Mode). ok (Go m)) (told u ∙ ap (modeOf (a .start)) (c .before .e .given .1)))) ∙ t .loop .inv .2)
 
 returns-2 : tie.Need-returns-2 Inv-loop μ-loop
 returns-2 c = ((omega arith, omega arith), c .before .loop .inv .2)

@@ -5,10 +5,11 @@ use native.Mathlib.Omega.{arith}
 use native.Mathlib.Nat.{not-suc-le-zero}
 use denote.Ref.{now}
 use Rattle.refusals.specs.Numbers.{sourceLimit}
+use Rattle.refusals.specs.Result.{ok}
 use Rattle.lexer.specs.Tokens.{token, symbol}
 use Rattle.feeder.specs.Machine.{Symbol, Blank, turn}
 use Rattle.feeder.specs.Feeding.{fed, ready, live}
-use Rattle.feeder.specs.Code.{call}
+use Rattle.feeder.specs.PrivateRuns.{call}
 use Rattle.feeder.proofs.Calls.{call-go, call-stay}
 use Rattle.feeder.proofs.glance.symbol_to.Statement.{statement}
 use Rattle.feeder.proofs.glance.symbol_to.Tie as tie
@@ -61,7 +62,7 @@ returns c h =
       omega arith,
       λ (p : ℕ) (l : p + a .stop ≤ sourceLimit).
           let e : t .loop .k - a .j ≡ p + t .loop .k - (p + a .j) = omega arith in
-          ap (λ (n : ℕ). fed (ready (token symbol (p + a .j) n)) (t .loop .k) (live Blank (p + t .loop .k))) e
+          ap (λ (n : ℕ). fed (ok (ready (token symbol (p + a .j) n))) (t .loop .k) (live Blank (p + t .loop .k))) e
           ∙ sym (call-stay (now (a .piece)) p (t .loop .k) (Symbol (p + a .j)) (omega arith) (omega arith) (token symbol (p + a .j) (p + t .loop .k - (p + a .j))) (rw f refl))
           ∙ t .loop .inv .2 p l,
     )

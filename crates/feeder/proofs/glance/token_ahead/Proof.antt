@@ -6,7 +6,7 @@ use borrow.Author.Tests.{ne-eqb}
 use denote.Ref.{now}
 use Rattle.refusals.specs.Numbers.{sourceLimit}
 use Rattle.feeder.specs.Machine.{Blank}
-use Rattle.feeder.specs.Code.{call}
+use Rattle.feeder.specs.PrivateRuns.{call}
 use Rattle.feeder.proofs.Glances.{none-shown, blank-on, symbol-shown, sign-shown, paren-shown}
 use Rattle.feeder.proofs.glance.token_ahead.Statement.{statement}
 use Rattle.feeder.proofs.glance.token_ahead.Tie as tie

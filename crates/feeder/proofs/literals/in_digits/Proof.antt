@@ -4,7 +4,7 @@ use mathlib.Core.Path.{_≡_, refl, sym, _∙_}
 use native.Mathlib.Omega.{arith}
 use lib.ListN.{getD}
 use denote.Ref.{now}
-use Rattle.feeder.specs.Code.{call}
+use Rattle.feeder.specs.PrivateRuns.{call}
 use Rattle.lexer.specs.Literals.{grow}
 use Rattle.feeder.specs.Machine.{Digits, turn}
 use Rattle.feeder.proofs.Calls.{call-go, call-ends, ended-stops}

@@ -6,8 +6,9 @@ use borrow.Author.Needs.{needs}
 use lib.ListN.{length}
 use denote.Ref.{now}
 use Rattle.refusals.specs.Numbers.{sourceLimit, tooLong}
-use Rattle.feeder.specs.Feeding.{fed, refuse, dead, feedFrom}
-use Rattle.feeder.specs.Code.{call, moved, Further}
+use Rattle.refusals.specs.Result.{refused}
+use Rattle.feeder.specs.Feeding.{fed, dead, feedFrom}
+use Rattle.feeder.specs.PrivateRuns.{call, moved, Further}
 use Rattle.feeder.specs.declared.runs.Moved.{Moved}
 use Rattle.feeder.proofs.Calls.{call-start, call-end, call-limit}
 use Rattle.feeder.proofs.runs.fed_on.Statement.{statement}
@@ -80,7 +81,7 @@ returns-3 c =
     let e : l .loop .i ≡ a .stop = omega arith in
     let f = feedFrom (a .mode) (a .place) (now (a .piece)) in
     rw (c .answered3 .ensures)
-    (subst (λ (u : ℕ). fed (refuse tooLong sourceLimit) u (dead tooLong sourceLimit (a .place + u)) ≡ f) e
+    (subst (λ (u : ℕ). fed (refused tooLong sourceLimit) u (dead tooLong sourceLimit (a .place + u)) ≡ f) e
     (sym (call-limit (now (a .piece)) (a .place) (l .loop .i) (l .loop .m) (omega arith) (omega (arith, l .before .before .pre))) ∙ l .loop .inv .1))
 
 add-t26 : tie.Need-add-t26 Inv-loop μ-loop

@@ -6,7 +6,7 @@ use native.Mathlib.Omega.{arith}
 use borrow.Author.Needs.{needs}
 use lib.ListN.{length, getD}
 use denote.Ref.{now}
-use Rattle.feeder.specs.Code.{call}
+use Rattle.feeder.specs.PrivateRuns.{call}
 use mathlib.Core.Bool.{false}
 use Rattle.refusals.specs.Numbers.{sourceLimit, formFeed}
 use Rattle.classes.specs.Classes.{classOf}

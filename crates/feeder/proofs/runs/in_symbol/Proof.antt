@@ -3,7 +3,7 @@ use Prim.Native.Nat.{_+_, _-_, _≤_}
 use mathlib.Core.Path.{_≡_, refl, sym, _∙_}
 use native.Mathlib.Omega.{arith}
 use denote.Ref.{now}
-use Rattle.feeder.specs.Code.{call}
+use Rattle.feeder.specs.PrivateRuns.{call}
 use Rattle.lexer.specs.Tokens.{token, symbol}
 use Rattle.feeder.specs.Machine.{Symbol, turn}
 use Rattle.feeder.proofs.Calls.{call-go, call-stay}

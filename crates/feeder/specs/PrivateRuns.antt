@@ -1,4 +1,4 @@
--- A call seen from inside its piece, and what the private enums of the feeder's code stand for.
+-- Private, for the contracts of the feeder's own functions: a call seen from inside its piece, and what the private enums stand for.
 use Prim.Native.Nat.{ℕ, _+_, _-_, _≤_, _<_}
 use mathlib.Core.Path.{_≡_}
 use mathlib.Core.Bool.{Bool, true, false, cond}
@@ -6,6 +6,7 @@ use mathlib.Core.List.{List}
 use lib.Dec.{eqb, leb}
 use lib.ListN.{length, getD, drop}
 use Rattle.refusals.specs.Numbers.{sourceLimit}
+use Rattle.refusals.specs.Result.{ok, refusedBy}
 use Rattle.classes.specs.declared.Class.{Class}
 use Rattle.classes.specs.Classes.{semicolon, rparen}
 use Rattle.lexer.specs.declared.Token.{Token}
@@ -14,7 +15,7 @@ use Rattle.lexer.specs.declared.Lexed.{Lexed}
 use Rattle.lexer.specs.declared.Lexed.the-variants as lexed
 use Rattle.lexer.specs.Tokens.{tokenOf}
 use Rattle.feeder.specs.Machine.{Half, Clear, Semi, Paren, Mode, Blank, Line, Opener, Symbol, Sign, Block, Zero, Digits, half, deeper}
-use Rattle.feeder.specs.Feeding.{Fed, fed, ready, refuse, live, feedFrom}
+use Rattle.feeder.specs.Feeding.{Fed, fed, ready, live, feedFrom}
 use Rattle.feeder.specs.declared.Phase.the-variants.{Refused}
 use Rattle.feeder.specs.declared.runs.Moved.{Moved}
 use Rattle.feeder.specs.declared.runs.Moved.the-variants.{On, Give, Halt}
@@ -33,8 +34,8 @@ call q p i m = ahead i (feedFrom m (p + i) (drop i q))
 -- the same by where a run ended
 abbrev pub moved : List ℕ → ℕ → Moved → Fed
 moved q p (On m i) = call q p i m
-moved q p (Give t st i) = fed (ready (tokenOf t st)) i (live Blank (p + i))
-moved q p (Halt r i) = fed (refuse (r .number) (r .place)) i (record { phase = Refused r; place = p + i })
+moved q p (Give t st i) = fed (ok (ready (tokenOf t st))) i (live Blank (p + i))
+moved q p (Halt r i) = fed (refusedBy r) i (record { phase = Refused r; place = p + i })
 
 -- a run that goes on has consumed a byte
 abbrev pub Further : ℕ → ℕ → Moved → Type 0
