@@ -13,7 +13,7 @@ use Rattle.refusals.specs.Numbers.{noDigits}
 use Rattle.classes.specs.declared.Class.{Class}
 use Rattle.classes.specs.declared.Class.the-variants.{Space, LineEnd, Semicolon, LParen, RParen, AtSign, FormFeed, Minus, Digit, Other}
 use Rattle.classes.specs.Classes.{classOf, symbolOther, digitOf, literalByte}
-use Rattle.wide.specs.Value.{Integer, is as isInteger, refused as noInteger, integerOf, val, split, grown}
+use Rattle.wide.specs.Value.{Integer, is as isInteger, none as noInteger, integerOf, val, split, grown}
 use Rattle.lexer.specs.declared.literal.Reading.{Reading}
 use Rattle.lexer.specs.declared.literal.Reading.the-variants.{Empty, Foreign, Over, Number}
 use Rattle.lexer.specs.Tokens.{token, past, symbol, Answer, end, is, refused}

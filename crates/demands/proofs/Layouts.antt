@@ -5,7 +5,7 @@ use mathlib.Core.List.{List, [], _∷_, map}
 use lib.IntN.{pos, negsuc}
 use lib.ListN.{length, replicate}
 use Rattle.classes.specs.Classes.{classOf}
-use Rattle.wide.specs.Decimal.{digits, decimalOf}
+use Rattle.wide.specs.Text.{digits, integerText}
 use Rattle.wide.specs.Bytes.{le, number}
 use Rattle.table.specs.Trees.{Tree, Trees, symbol, integer, binding, list, none, more, runsOn, isSymbol, record-of, records, recordsOf}
 use Rattle.table.specs.Records.{recordAt}
@@ -60,18 +60,18 @@ cases =
     ∷ []
 
 pub worked : map (λ (c : Case). page (c .trees) (c .width)) cases ≡ map (λ (c : Case). c .text) cases
-unfolding cases cost lay pageFrom decimalOf digits
+unfolding cases cost lay pageFrom integerText digits
 worked = refl
 
 pub sizes : map (λ (c : Case). length (page (c .trees) (c .width))) cases ≡ map (λ (c : Case). c .size) cases
-unfolding cases cost lay pageFrom decimalOf digits
+unfolding cases cost lay pageFrom integerText digits
 sizes = refl
 
 -- the same of their tables: the answer of `print`, and a buffer of that size after it
 pub answers : map (λ (c : Case). printing (recordsOf (c .trees)) (c .width) (c .size)) cases ≡ map (λ (c : Case). print.text (c .size)) cases
-unfolding cases cost lay pageFrom decimalOf digits printing tableOf treesAt treeAt itemsAt recordAt stepAt number isSymbol runsOn classOf records record-of le
+unfolding cases cost lay pageFrom integerText digits printing tableOf treesAt treeAt itemsAt recordAt stepAt number isSymbol runsOn classOf records record-of le
 answers = refl
 
 pub buffers : map (λ (c : Case). printedInto (recordsOf (c .trees)) (c .width) (replicate (c .size) 0)) cases ≡ map (λ (c : Case). c .text) cases
-unfolding cases cost lay pageFrom decimalOf digits printedInto tableOf treesAt treeAt itemsAt recordAt stepAt number isSymbol runsOn classOf records record-of le
+unfolding cases cost lay pageFrom integerText digits printedInto tableOf treesAt treeAt itemsAt recordAt stepAt number isSymbol runsOn classOf records record-of le
 buffers = refl

@@ -18,7 +18,7 @@ use Rattle.wide.specs.declared.Wide.{Wide}
 use Rattle.wide.specs.declared.Grown.{Grown}
 use Rattle.wide.specs.declared.Signed.{Signed}
 use Rattle.wide.specs.Value.{val, value, grown, integerOf, signedOf}
-use Rattle.wide.specs.Decimal.{decimalOf}
+use Rattle.wide.specs.Text.{integerText}
 use Rattle.wide.specs.Bytes.{le, numberIn, wideBytes, wideIn}
 use Rattle.wide.proofs.Values.{value-same, LowFits, signed-same}
 use Rattle.lexer.specs.declared.Token.{Token as CodeToken}
@@ -247,8 +247,8 @@ pub record OneAnswer : Type 0 where
   pub wide·negative : (w : Wide) → One Bool (λ r. r ≡ ltZ (value w) (pos 0))
   pub wide·with-sign : (n : Limbs) (minus : Bool) → OneHeld Signed LowFits (λ r. signedOf r ≡ integerOf minus (val n))
   pub wide·grow : (n : Limbs) (radix digit : ℕ) → One Grown (λ r. r ≡ grown (val n * radix + digit))
-  pub wide·decimal-len : (w : Wide) → One ℕ (λ r. r ≡ length (decimalOf (value w)))
-  pub wide·put-decimal : (w : Wide) (out : List ℕ) → Both ℕ (List ℕ) (λ r exit. (r ≡ length (decimalOf (value w))) × (exit ≡ fitted (decimalOf (value w)) out))
+  pub wide·text-len : (w : Wide) → One ℕ (λ r. r ≡ length (integerText (value w)))
+  pub wide·put-text : (w : Wide) (out : List ℕ) → Both ℕ (List ℕ) (λ r exit. (r ≡ length (integerText (value w))) × (exit ≡ fitted (integerText (value w)) out))
   pub wide·put-u16 : (n : ℕ) (out : List ℕ) → One (List ℕ) (λ exit. exit ≡ fitted (le 2 n) out)
   pub wide·put-u32 : (n : ℕ) (out : List ℕ) → One (List ℕ) (λ exit. exit ≡ fitted (le 4 n) out)
   pub wide·put-wide : (w : Wide) (out : List ℕ) → One (List ℕ) (λ exit. exit ≡ fitted (wideBytes (value w)) out)
@@ -292,8 +292,8 @@ one-answer = record {
   wide·negative = λ w. one _;
   wide·with-sign = λ n minus. held LowFits signedOf signed-same _;
   wide·grow = λ n radix digit. one _;
-  wide·decimal-len = λ w. one _;
-  wide·put-decimal = λ w out. both _ _;
+  wide·text-len = λ w. one _;
+  wide·put-text = λ w out. both _ _;
   wide·put-u16 = λ n out. one _;
   wide·put-u32 = λ n out. one _;
   wide·put-wide = λ w out. one _;

@@ -16,8 +16,8 @@ use Rattle.wide.specs.declared.Limbs.{Limbs}
 use Rattle.wide.specs.declared.Wide.{Wide}
 use Rattle.wide.specs.declared.Grown.{Grown}
 use Rattle.wide.specs.declared.Grown.the-variants.{Fits, Over}
-use Rattle.wide.specs.Value.{val, value, valueOf, grown, Integer, is as integer, refused as no-integer, integerOf}
-use Rattle.wide.specs.Decimal.{digits, decimalOf}
+use Rattle.wide.specs.Value.{val, value, valueOf, grown, Integer, is as integer, none as no-integer, integerOf}
+use Rattle.wide.specs.Text.{digits, integerText}
 use Rattle.wide.specs.Bytes.{le, number, numberIn, wideBytes, wideIn}
 use Rattle.lexer.specs.declared.literal.Reading.{Reading}
 use Rattle.lexer.specs.declared.literal.Reading.the-variants.{Empty, Foreign, Over as TooMuch, Number}
@@ -164,22 +164,22 @@ negative-zero : Not (true ≡ ltZ (value (wide (pos 0) 0)) (pos 0))
 unfolding valueOf
 negative-zero e = let z : _≡_ {A = ℕ} 0 1 = cc in omega arith
 
--- wide::decimal_len: 0 for zero; the minus sign left out
-len-zero : Not (0 ≡ length (decimalOf (value (wide (pos 0) 0))))
-unfolding valueOf decimalOf digits
+-- wide::text_len: 0 for zero; the minus sign left out
+len-zero : Not (0 ≡ length (integerText (value (wide (pos 0) 0))))
+unfolding valueOf integerText digits
 len-zero e = omega arith
 
-len-minus : Not (1 ≡ length (decimalOf (value (wide (negsuc 0) (2 ^ 64 - 1)))))
-unfolding valueOf decimalOf digits
+len-minus : Not (1 ≡ length (integerText (value (wide (negsuc 0) (2 ^ 64 - 1)))))
+unfolding valueOf integerText digits
 len-minus e = omega arith
 
--- wide::put_decimal: a leading zero; a byte written where the room is too short
-decimal-leading : Not (48 ∷ 55 ∷ [] ≡ fitted (decimalOf (value (wide (pos 0) 7))) (0 ∷ 0 ∷ []))
-unfolding valueOf decimalOf digits
+-- wide::put_text: a leading zero; a byte written where the room is too short
+decimal-leading : Not (48 ∷ 55 ∷ [] ≡ fitted (integerText (value (wide (pos 0) 7))) (0 ∷ 0 ∷ []))
+unfolding valueOf integerText digits
 decimal-leading e = let z : _≡_ {A = ℕ} 48 55 = cc in omega arith
 
-decimal-short : Not (49 ∷ [] ≡ fitted (decimalOf (value (wide (pos 0) 12))) (0 ∷ []))
-unfolding valueOf decimalOf digits
+decimal-short : Not (49 ∷ [] ≡ fitted (integerText (value (wide (pos 0) 12))) (0 ∷ []))
+unfolding valueOf integerText digits
 decimal-short e = let z : _≡_ {A = ℕ} 49 0 = cc in omega arith
 
 -- wide::put_u16: the most significant byte first; a byte past the number changed

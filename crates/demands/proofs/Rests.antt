@@ -14,7 +14,7 @@ use Rattle.lists.proofs.Choice.{and-left, and-right, true-false}
 use Rattle.classes.specs.declared.Class.{Class}
 use Rattle.classes.specs.declared.Class.the-variants.{Space, LineEnd, Semicolon, LParen, RParen, AtSign, FormFeed, Minus, Digit, Other}
 use Rattle.classes.specs.Classes.{classOf, semicolon, symbolFirst, symbolOther, digitOf, literalByte}
-use Rattle.wide.specs.Decimal.{decimalOf}
+use Rattle.wide.specs.Text.{integerText}
 use Rattle.lexer.specs.Tokens.{Kind, lparen, rparen, at-sign as at-token, symbol, int, token, Answer, is}
 use Rattle.lexer.specs.Literals.{radixOf}
 use Rattle.lexer.specs.Lexing.{Between, skip, symbolEnd, lexIn, nextToken}
@@ -68,7 +68,7 @@ symbol-token (b ∷ n) r p h k =
     let o : classOf b ≡ Other = first-byte b n h in
     rw (o, symbol-run n r (suc p) (unfold isSymbol in and-right (symbolFirst (classOf b)) (runsOn n) h) k, e) refl
 
-pub integer-token : (z : ℤ) (r : List ℕ) (p : ℕ) → natAbs z < 2 ^ 127 → Sep r → lexIn 0 Between (decimalOf z ++ r) p ≡ is (token (int z) p (length (decimalOf z)))
+pub integer-token : (z : ℤ) (r : List ℕ) (p : ℕ) → natAbs z < 2 ^ 127 → Sep r → lexIn 0 Between (integerText z ++ r) p ≡ is (token (int z) p (length (integerText z)))
 unfolding literalByte digitOf radixOf
 integer-token z r p h (space {r = r'}) = spelt 32 r' refl refl z p h
 integer-token z r p h (line {r = r'}) = spelt 10 r' refl refl z p h
@@ -144,8 +144,8 @@ module _ (s : List ℕ) (limit : length s ≤ sourceLimit) where
       tells-token symbol n r (name n) y (some n h) (λ p. symbol-token n r p h k)
       (λ p e. ap (λ (l : List ℕ). name (take (length n) l)) e ∙ ap name (take-at n r (length n) refl)) g
 
-  pub tells-integer : (z : ℤ) (r : List ℕ) (y : Said) → natAbs z < 2 ^ 127 → Sep r → Tells s y r → Tells s (says (number z) y) (decimalOf z ++ r)
-  tells-integer z r y h k g = tells-token (int z) (decimalOf z) r (number z) y (spelt-some z h) (λ p. integer-token z r p h k) (λ p e. refl) g
+  pub tells-integer : (z : ℤ) (r : List ℕ) (y : Said) → natAbs z < 2 ^ 127 → Sep r → Tells s y r → Tells s (says (number z) y) (integerText z ++ r)
+  tells-integer z r y h k g = tells-token (int z) (integerText z) r (number z) y (spelt-some z h) (λ p. integer-token z r p h k) (λ p e. refl) g
 
   pub tells-open : (l : List ℕ) (y : Said) → Clear l → Tells s y l → Tells s (says open-paren y) (40 ∷ l)
   tells-open l y h g = tells-token lparen (40 ∷ []) l open-paren y (omega arith) (λ p. open-token l p h) (λ p e. refl) g

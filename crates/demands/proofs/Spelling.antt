@@ -14,7 +14,7 @@ use borrow.Author.Tests.{lt-ltb, ltb-true, ltb-false, lt-leb, ne-eqb}
 use Rattle.classes.specs.declared.Class.the-variants.{Digit}
 use Rattle.classes.specs.Classes.{classOf, semicolon, digitOf, literalByte}
 use Rattle.wide.specs.Value.{val, split, grown, is as isInteger, integerOf}
-use Rattle.wide.specs.Decimal.{digits, digitsOf, decimalOf}
+use Rattle.wide.specs.Text.{digits, digitsOf, integerText}
 use Rattle.lexer.specs.declared.literal.Reading.{Reading}
 use Rattle.lexer.specs.declared.literal.Reading.the-variants.{Empty, Number}
 use Rattle.lexer.specs.Tokens.{token, is, int}
@@ -188,8 +188,8 @@ negative n h =
 
 -- an integer's decimals, before a byte that ends a literal and names no radix, are its token; -2^127 has none
 pub spelt : (c : ℕ) (r : List ℕ) → literalByte c ≡ false → radixOf 48 c ≡ 10 → (z : ℤ) (p : ℕ) → natAbs z < 2 ^ 127
-    → lexIn 0 Between (decimalOf z ++ (c ∷ r)) p ≡ is (token (int z) p (length (decimalOf z)))
-unfolding decimalOf
+    → lexIn 0 Between (integerText z ++ (c ∷ r)) p ≡ is (token (int z) p (length (integerText z)))
+unfolding integerText
 spelt c r e f (pos n) p h =
     let s : Spells n (digitsOf n) = spells-of n h in
     leads c r e f n p (digitsOf n) s
@@ -204,8 +204,8 @@ spelt c r e f (negsuc n) p h =
     ∙ ap (λ (k : ℕ). is (token (int (negsuc n)) p k)) (span-suc p (length (digitsOf (suc n))))
 
 -- they begin with no `;`, which would open a comment behind `(`
-pub starts : (z : ℤ) (r : List ℕ) → natAbs z < 2 ^ 127 → semicolon (classOf (getD (decimalOf z ++ r) 0 0)) ≡ false
-unfolding classOf decimalOf
+pub starts : (z : ℤ) (r : List ℕ) → natAbs z < 2 ^ 127 → semicolon (classOf (getD (integerText z ++ r) 0 0)) ≡ false
+unfolding classOf integerText
 starts (pos n) r h = lead (digitsOf n) (spells-of n h)
   where
     lead : (ds : List ℕ) → Spells n ds → semicolon (classOf (getD (ds ++ r) 0 0)) ≡ false
@@ -214,7 +214,7 @@ starts (pos n) r h = lead (digitsOf n) (spells-of n h)
 starts (negsuc n) r h = refl
 
 -- and are not empty
-pub spelt-some : (z : ℤ) → natAbs z < 2 ^ 127 → 1 ≤ length (decimalOf z)
-unfolding decimalOf
+pub spelt-some : (z : ℤ) → natAbs z < 2 ^ 127 → 1 ≤ length (integerText z)
+unfolding integerText
 spelt-some (pos n) h = spells-of n h .some
 spelt-some (negsuc n) h = omega arith

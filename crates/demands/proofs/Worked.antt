@@ -6,7 +6,7 @@ use lib.IntN.{pos, negsuc}
 use lib.ListN.{length, take, replicate}
 use Rattle.classes.specs.Classes.{classOf, digitOf, literalByte}
 use Rattle.wide.specs.Value.{val, grown, integerOf}
-use Rattle.wide.specs.Decimal.{digits, decimalOf}
+use Rattle.wide.specs.Text.{digits, integerText}
 use Rattle.wide.specs.Bytes.{le, number}
 use Rattle.lexer.specs.Tokens.{symbol, int, token}
 use Rattle.lexer.specs.Literals.{taken, grow, reading as digitsRead, literalEnd, radixOf, concluded, unsignedIn}
@@ -94,5 +94,5 @@ cases =
     ∷ []
 
 pub worked : map (λ (c : Case). ran (c .run)) cases ≡ map (λ (c : Case). c .answer) cases
-unfolding cases tokensFrom nextToken lexIn skip symbolEnd classOf literalByte digitOf taken grow digitsRead literalEnd radixOf concluded unsignedIn val grown integerOf reading readInto fileOf readItems readTree records record-of le number printing printedInto tableOf treesAt treeAt itemsAt recordAt stepAt isSymbol runsOn pageFrom lay cost digits decimalOf
+unfolding cases tokensFrom nextToken lexIn skip symbolEnd classOf literalByte digitOf taken grow digitsRead literalEnd radixOf concluded unsignedIn val grown integerOf reading readInto fileOf readItems readTree records record-of le number printing printedInto tableOf treesAt treeAt itemsAt recordAt stepAt isSymbol runsOn pageFrom lay cost digits integerText
 worked = refl

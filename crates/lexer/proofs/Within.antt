@@ -21,7 +21,7 @@ use Rattle.refusals.specs.Result.{ok, refused}
 use Rattle.classes.specs.declared.Class.{Class}
 use Rattle.classes.specs.declared.Class.the-variants.{Space, LineEnd, Semicolon, LParen, RParen, AtSign, FormFeed, Minus, Digit, Other}
 use Rattle.classes.specs.Classes.{classOf, digitOf, literalByte, symbolOther}
-use Rattle.wide.specs.Value.{val, split, grown, Integer, is as isInteger, refused as noInteger, integerOf}
+use Rattle.wide.specs.Value.{val, split, grown, Integer, is as isInteger, none as noInteger, integerOf}
 use Rattle.wide.specs.declared.Grown.{Grown}
 use Rattle.wide.specs.declared.Grown.the-variants.{Fits, Over as Above}
 use Rattle.wide.proofs.TwoLimbs.{split-val}

@@ -10,7 +10,7 @@ use lib.Dec.{lit≤}
 use Rattle.refusals.specs.Numbers.{depthLimit}
 use Rattle.wide.specs.Bytes.{le, wideBytes}
 use Rattle.wide.proofs.Numbers.{Bytes, wide-length}
-use Rattle.wide.proofs.Decimals.{decimal-top}
+use Rattle.wide.proofs.Decimals.{integer-top}
 use Rattle.table.specs.Trees.{Tree, Trees, symbol, integer, binding, list, none, more, count, record-of, records, recordsOf, Good, Goods}
 use Rattle.table.specs.Decoding.{Found, found, refused, treeAt}
 use Rattle.table.proofs.Heads.{length-record}
@@ -69,7 +69,7 @@ mutual
 
   pub lay-len : (x : Tree) (d : ℕ) (m : Wrapping) (w i c : ℕ) → Good x d → i + d ≤ 64 → length (bytes (lay x m w i c)) + 300 ≤ 128 * length (records x)
   lay-len (symbol n) d m w i c g h = rw (length-record 1 n) (omega arith)
-  lay-len (integer z) d m w i c g h = rw (length-record 2 (wideBytes z), wide-length z) (omega (arith, decimal-top z))
+  lay-len (integer z) d m w i c g h = rw (length-record 2 (wideBytes z), wide-length z) (omega (arith, integer-top z))
   lay-len (binding n x) d m w i c g h =
       let k : ℕ = c + length (named n) in
       rw (length-append (named n) (bytes (lay x m w i k)), length-append (record-of 3 n) (records x), length-record 3 n)

@@ -8,7 +8,7 @@ use lib.ListN.{length}
 use lib.Dec.{leb}
 use borrow.Author.Tests.{le-leb, lt-leb, leb-true, leb-false}
 use Rattle.wide.specs.Bytes.{le, wideBytes}
-use Rattle.wide.specs.Decimal.{decimalOf}
+use Rattle.wide.specs.Text.{integerText}
 use Rattle.wide.proofs.Numbers.{Bytes, le-length, wide-length}
 use Rattle.table.specs.Trees.{Tree, Trees, symbol, integer, binding, list, none, more, count, record-of, records, recordsOf}
 use Rattle.table.specs.declared.Record.{Record}
@@ -37,7 +37,7 @@ kids (list xs) = xs
 
 abbrev ownCost : Tree → ℕ
 ownCost (symbol n) = length n
-ownCost (integer z) = length (decimalOf z)
+ownCost (integer z) = length (integerText z)
 ownCost (binding n x) = length n + 3
 ownCost (list xs) = count xs + 1
 

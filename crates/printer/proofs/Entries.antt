@@ -9,7 +9,7 @@ use lib.IntN.{ℤ}
 use lib.Dec.{leb}
 use borrow.Author.Tests.{le-leb, leb-true}
 use Rattle.wide.specs.Bytes.{integerAt, wideIn, numberAt, numberIn}
-use Rattle.wide.specs.Decimal.{decimalOf}
+use Rattle.wide.specs.Text.{integerText}
 use Rattle.wide.proofs.Numbers.{Bytes}
 use Rattle.table.specs.declared.Record.{Record}
 use Rattle.table.specs.declared.Record.the-variants.{Symbol, Integer, Binding, List as ListOf, Bad}
@@ -103,7 +103,7 @@ module _ (t : List ℕ) (at len kind : ℕ) (el : len ≡ numberIn 4 t at) (ek :
       by Bad h g = absurd (g refl)
 
   -- no other kind is left
-  pub integer-entered : (k : ℕ) (z : ℤ) → k ≡ length (decimalOf z) → z ≡ wideIn t (at + 6) → (kind ≡ 1 → ⊥) → (kind ≡ 4 → ⊥) → (kind ≡ 3 → ⊥) → Bytes t → 6 ≤ len
+  pub integer-entered : (k : ℕ) (z : ℤ) → k ≡ length (integerText z) → z ≡ wideIn t (at + 6) → (kind ≡ 1 → ⊥) → (kind ≡ 4 → ⊥) → (kind ≡ 3 → ⊥) → Bytes t → 6 ≤ len
       → Entered t at (recordAt t at) (Is k len 0)
   integer-entered k z en ez n1 n4 n3 hb h6 = entered k 0 by hb h6 (omega arith)
     where
@@ -111,7 +111,7 @@ module _ (t : List ℕ) (at len kind : ℕ) (el : len ≡ numberIn 4 t at) (ek :
       by (Symbol l) h g = absurd (n1 (h .1))
       by Integer h g =
           let f : z ≡ integerAt t (at + 6) = integer-value t at z (h .2) ez in
-          ap (λ (j : ℕ). Is k j 0) (h .0) ∙ ap (λ (j : ℕ). Is j 22 0) (en ∙ ap (λ (y : ℤ). length (decimalOf y)) f)
+          ap (λ (j : ℕ). Is k j 0) (h .0) ∙ ap (λ (j : ℕ). Is j 22 0) (en ∙ ap (λ (y : ℤ). length (integerText y)) f)
       by (Binding l) h g = absurd (n3 (h .1))
       by (ListOf n) h g = absurd (n4 (h .2))
       by Bad h g = absurd (g refl)

@@ -13,9 +13,9 @@ use borrow.Rule.Slice.PartMut.{putMid}
 use Rattle.lists.specs.Over.{over, fitted}
 use Rattle.lists.proofs.Writing.{Wrote}
 use Rattle.wide.specs.Bytes.{numberIn, integerAt, le, wideBytes}
-use Rattle.wide.specs.Decimal.{decimalOf}
+use Rattle.wide.specs.Text.{integerText}
 use Rattle.wide.proofs.Numbers.{Bytes, wide-length}
-use Rattle.wide.proofs.Decimals.{decimal-top}
+use Rattle.wide.proofs.Decimals.{integer-top}
 use Rattle.table.specs.Trees.{Tree, Trees, symbol, integer, binding, list, none, more, count, record-of, records, recordsOf}
 use Rattle.table.specs.declared.Record.{Record}
 use Rattle.table.specs.declared.Record.the-variants.{Symbol, Integer, Binding, List as ListOf, Bad}
@@ -42,7 +42,7 @@ space false = 32 ∷ []
 unfoldable mutual
   pub line : Tree → List ℕ
   line (symbol n) = n
-  line (integer z) = decimalOf z
+  line (integer z) = integerText z
   line (binding n x) = named n ++ line x
   line (list xs) = 40 ∷ lines xs true
 
@@ -74,7 +74,7 @@ mutual
 
   line-len : (x : Tree) → length (line x) + 2 ≤ 2 * length (records x)
   line-len (symbol n) = rw (length-record 1 n) (omega arith)
-  line-len (integer z) = rw (length-record 2 (wideBytes z), wide-length z) (omega (arith, decimal-top z))
+  line-len (integer z) = rw (length-record 2 (wideBytes z), wide-length z) (omega (arith, integer-top z))
   line-len (binding n x) =
       rw (length-append (named n) (line x), length-append (record-of 3 n) (records x), length-record 3 n) (omega (arith, named-size n, line-len x))
   line-len (list xs) =
@@ -130,11 +130,11 @@ unfolding line
 symbol-run t y at len n b b′ e en f = atom y (symbol (payload t at len)) (at + len) n (payload t at len) _ b b′ e refl (part t at len) en f
 
 pub integer-run : (t : List ℕ) (y : Found Tree) (at : ℕ) (z : ℤ) (n : ℕ) (b b′ : List ℕ) → y ≡ found (integer (integerAt t (at + 6))) (at + 22) → z ≡ integerAt t (at + 6)
-    → n ≡ length (decimalOf z) → b′ ≡ fitted (decimalOf z) b → Run y (at + 22) n b b′
+    → n ≡ length (integerText z) → b′ ≡ fitted (integerText z) b → Run y (at + 22) n b b′
 unfolding line
 integer-run t y at z n b b′ e ez en f =
-    atom y (integer (integerAt t (at + 6))) (at + 22) n (decimalOf (integerAt t (at + 6))) (decimalOf z) b b′ e refl (ap decimalOf ez) en
-    (λ l. f ∙ rw (le-leb (length (decimalOf z)) (length b) l) refl)
+    atom y (integer (integerAt t (at + 6))) (at + 22) n (integerText (integerAt t (at + 6))) (integerText z) b b′ e refl (ap integerText ez) en
+    (λ l. f ∙ rw (le-leb (length (integerText z)) (length b) l) refl)
 
 -- ---- a symbol, by its kind and its length alone
 

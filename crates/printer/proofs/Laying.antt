@@ -12,7 +12,7 @@ use borrow.Rule.Slice.PartMut.{putMid}
 use Rattle.lists.specs.Over.{over, fitted}
 use Rattle.lists.proofs.Writing.{Wrote}
 use Rattle.wide.specs.Bytes.{integerAt}
-use Rattle.wide.specs.Decimal.{decimalOf}
+use Rattle.wide.specs.Text.{integerText}
 use Rattle.table.specs.Trees.{Tree, Trees, symbol, integer, binding, list}
 use Rattle.table.specs.Records.{payload}
 use Rattle.table.proofs.Checking.{part}
@@ -46,11 +46,11 @@ symbol-out t d at len m w i c n b b′ e en f =
     atom (treeAt t true d at) m w i c (symbol (payload t at len)) (at + len) n (payload t at len) _ b b′ e refl (part t at len) en f
 
 pub integer-out : (t : List ℕ) (d at : ℕ) (z : ℤ) (m : Wrapping) (w i c n : ℕ) (b b′ : List ℕ) → treeAt t true d at ≡ found (integer (integerAt t (at + 6))) (at + 22) → z ≡ integerAt t (at + 6)
-    → n ≡ length (decimalOf z) → b′ ≡ fitted (decimalOf z) b → Output (treeAt t true d at) m w i c (at + 22) n (c + n) b b′
+    → n ≡ length (integerText z) → b′ ≡ fitted (integerText z) b → Output (treeAt t true d at) m w i c (at + 22) n (c + n) b b′
 unfolding lay
 integer-out t d at z m w i c n b b′ e ez en f =
-    atom (treeAt t true d at) m w i c (integer (integerAt t (at + 6))) (at + 22) n (decimalOf (integerAt t (at + 6))) (decimalOf z) b b′ e refl (ap decimalOf ez) en
-    (λ l. f ∙ rw (le-leb (length (decimalOf z)) (length b) l) refl)
+    atom (treeAt t true d at) m w i c (integer (integerAt t (at + 6))) (at + 22) n (integerText (integerAt t (at + 6))) (integerText z) b b′ e refl (ap integerText ez) en
+    (λ l. f ∙ rw (le-leb (length (integerText z)) (length b) l) refl)
 
 -- ---- a binding
 

@@ -5,7 +5,7 @@ use mathlib.Core.List.{List, [], _∷_}
 use Prim.Native.Nat.{ℕ, _+_}
 use native.Mathlib.Omega.{arith}
 use lib.ListN.{length, length-append}
-use Rattle.wide.specs.Decimal.{decimalOf}
+use Rattle.wide.specs.Text.{integerText}
 use Rattle.table.specs.Trees.{Tree, Trees, symbol, integer, binding, list, none, more, count}
 use Rattle.printer.specs.Layout.{SingleLine, bytes, column, named, lay, items}
 use Rattle.printer.specs.Code.{around}
@@ -13,7 +13,7 @@ use Rattle.printer.specs.Code.{around}
 unfoldable mutual
   pub span : Tree → ℕ
   span (symbol n) = length n
-  span (integer z) = length (decimalOf z)
+  span (integer z) = length (integerText z)
   span (binding n x) = length n + 3 + span x
   span (list xs) = around (count xs) + spans xs
 

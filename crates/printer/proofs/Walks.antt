@@ -12,7 +12,7 @@ use lib.Dec.{ltb, eqb}
 use borrow.Author.Tests.{lt-ltb, le-ltb, ne-eqb}
 use Rattle.refusals.specs.Numbers.{tableLimit, depthLimit, tooLong}
 use Rattle.wide.specs.Bytes.{wideIn}
-use Rattle.wide.specs.Decimal.{decimalOf}
+use Rattle.wide.specs.Text.{integerText}
 use Rattle.wide.proofs.Numbers.{Bytes}
 use Rattle.table.specs.Trees.{Tree, Trees, symbol, list, none, more, count, records}
 use Rattle.table.specs.Records.{payload}
@@ -105,7 +105,7 @@ module _ (t : List ℕ) (d at : ℕ) (s : Step) (e : s ≡ stepAt t true at (ltb
       let a = step-in t true d at s (step.Symbol len) e e′ in
       to (step.Symbol len) e′ (rw (k, payload-size t at len (a .0) (a .1)) (refl, refl, refl, refl, refl))
 
-  pub at-integer : (n : ℕ) (z : ℤ) → s ≡ step.Integer → n ≡ length (decimalOf z) → z ≡ wideIn t (at + 6)
+  pub at-integer : (n : ℕ) (z : ℤ) → s ≡ step.Integer → n ≡ length (integerText z) → z ≡ wideIn t (at + 6)
       → r ≡ record { number = 0; place = at + 22; cost = n; empty = 0; len = n } → Sized (treeAt t true d at) w i c r
   unfolding lay cost empties
   at-integer n z e′ en ez k =

@@ -7,7 +7,7 @@ use lib.ListN.{length}
 use Rattle.refusals.specs.Numbers.{tableLimit, depthLimit}
 use Rattle.lists.specs.Over.{over}
 use Rattle.wide.specs.Bytes.{integerAt}
-use Rattle.wide.specs.Decimal.{decimalOf}
+use Rattle.wide.specs.Text.{integerText}
 use Rattle.table.specs.Trees.{Tree, Trees, symbol, none}
 use Rattle.table.specs.declared.Record.{Record}
 use Rattle.table.specs.declared.Record.the-variants.{Symbol, Integer, Binding, List as ListOf, Bad}
@@ -40,7 +40,7 @@ around (suc n) = suc n + 1
 -- what a record adds to the cost, its length, and the trees that come due with it
 abbrev pub entryOf : List ℕ → ℕ → Record → Entry
 entryOf t at (Symbol len) = Is (len - 6) len 0
-entryOf t at Integer = Is (length (decimalOf (integerAt t (at + 6)))) 22 0
+entryOf t at Integer = Is (length (integerText (integerAt t (at + 6)))) 22 0
 entryOf t at (Binding len) = Is (len - 3) len 1
 entryOf t at (ListOf n) = Is (n + 1) 10 n
 entryOf t at Bad = NoEntry

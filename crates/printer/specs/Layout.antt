@@ -4,14 +4,14 @@ use mathlib.Core.Bool.{Bool, true, false, cond}
 use mathlib.Core.List.{List, [], _∷_, _++_}
 use lib.ListN.{length, replicate}
 use lib.Dec.{leb}
-use Rattle.wide.specs.Decimal.{decimalOf}
+use Rattle.wide.specs.Text.{integerText}
 use Rattle.table.specs.Trees.{Tree, Trees, symbol, integer, binding, list, none, more, count}
 
 -- costs add over the subtree: atom its length; binding name plus 3; list items plus 1
 unfoldable mutual
   pub cost : Tree → ℕ
   cost (symbol n) = length n
-  cost (integer z) = length (decimalOf z)
+  cost (integer z) = length (integerText z)
   cost (binding n x) = length n + 3 + cost x
   cost (list xs) = count xs + 1 + costs xs
 
@@ -80,7 +80,7 @@ unfoldable mutual
   -- a tree in a mode at width w, indent i and column c
   pub lay : Tree → Wrapping → ℕ → ℕ → ℕ → Put
   lay (symbol n) m w i c = put n c
-  lay (integer z) m w i c = put (decimalOf z) c
+  lay (integer z) m w i c = put (integerText z) c
   lay (binding n x) m w i c = next (put (named n) c) (λ c1. lay x m w i c1)
   lay (list xs) m w i c = next (put (40 ∷ []) c) (λ c1. items xs true (wrapped m w c (list xs)) w i c1)
 

@@ -35,7 +35,7 @@ fn entry_at(t: &[u8], at: usize) -> Entry
     if kind == 3 {
         return Entry::Is(len - 3, len, 1);
     }
-    Entry::Is(wide::decimal_len(wide::wide_at(t, at + 6)), len, 0)
+    Entry::Is(wide::text_len(wide::wide_at(t, at + 6)), len, 0)
 }
 
 // Whether the tree at `at` fits: its records are walked with a count of the trees still due, up to the first that costs too much.

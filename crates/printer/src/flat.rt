@@ -49,7 +49,7 @@ pub fn print_flat(t: &[u8], at: usize, depth: usize, out: &mut [u8]) -> Run
         }
         Record::Integer => Run {
             next: at + 22,
-            len: wide::put_decimal(wide::wide_at(t, at + 6), out),
+            len: wide::put_text(wide::wide_at(t, at + 6), out),
         },
         Record::Binding(len) => {
             let k = put_name(t, at, len, out);

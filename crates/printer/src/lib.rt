@@ -69,7 +69,7 @@ fn print_wrapped(
             Run { next: end, len: n }
         }
         Record::Integer => {
-            let n = wide::put_decimal(wide::wide_at(t, at + 6), out);
+            let n = wide::put_text(wide::wide_at(t, at + 6), out);
             Run {
                 next: at + 22,
                 len: n,

@@ -89,7 +89,7 @@ fn measure_tree(
     match step {
         Step::Fault(number) => stopped(number, at),
         Step::Symbol(len) => atom(at + len, len - 6),
-        Step::Integer => atom(at + 22, wide::decimal_len(wide::wide_at(t, at + 6))),
+        Step::Integer => atom(at + 22, wide::text_len(wide::wide_at(t, at + 6))),
         Step::Binding(len) => {
             let n = len - 3;
             let m = measure_tree(t, at + len, depth - 1, width, indent, column + n);

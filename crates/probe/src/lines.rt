@@ -54,7 +54,7 @@ pub fn number(page: &mut [u8; 65536], n: usize, x: usize) -> usize {
 
 fn integer(page: &mut [u8; 65536], n: usize, w: Wide) -> usize {
     let mut text = [0u8; 40];
-    let k = within(wide::put_decimal(w, &mut text), &text);
+    let k = within(wide::put_text(w, &mut text), &text);
     bytes(page, n, &text[..k])
 }
 

@@ -14,15 +14,13 @@ use lib.Seq.{drop-cons}
 use mir.Syntax.{w128}
 use mir.Val.{SFits, ofZ, toZ}
 use mir.ValLaws.{ofZ-fits, toZ-ofZ, ofZ-toZ}
+pub use Rattle.wide.specs.Bytes.{Bytes}
 use Rattle.wide.specs.Bytes.{le, number, numberAt, numberIn, wideBytes, integerAt, wideIn}
 
--- every number of a list is a byte: by its structure, and by its places (what a slice is known to hold)
+-- the same by the list's structure
 abbrev pub AllBytes : List ℕ → Type 0
 AllBytes [] = Unit {0}
 AllBytes (b ∷ l) = (b < 256) × AllBytes l
-
-abbrev pub Bytes : List ℕ → Type 0
-Bytes t = (i : ℕ) → getD t i 0 < 256
 
 pub bytes-part : (t : List ℕ) → Bytes t → (k p : ℕ) → p + k ≤ length t → AllBytes (take k (drop p t))
 bytes-part t h zero p l = tt

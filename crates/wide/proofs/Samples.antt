@@ -5,19 +5,19 @@ use mathlib.Core.List.{List, [], _∷_, map}
 use Prim.Native.Nat.{ℕ, _+_, _-_, _^_}
 use lib.IntN.{pos, negsuc}
 use lib.ListN.{replicate}
-use Rattle.wide.specs.Value.{is, refused, integerOf, Fits, Over, grown}
-use Rattle.wide.specs.Decimal.{digits, decimalOf}
+use Rattle.wide.specs.Value.{is, none, integerOf, Fits, Over, grown}
+use Rattle.wide.specs.Text.{digits, integerText}
 use Rattle.wide.specs.Bytes.{le, wideBytes}
 
 -- 0, -1, 10, the highest and the lowest integer as text
-pub texts : map decimalOf (pos 0 ∷ negsuc 0 ∷ pos 10 ∷ pos (2 ^ 127 - 1) ∷ negsuc (2 ^ 127 - 1) ∷ [])
+pub texts : map integerText (pos 0 ∷ negsuc 0 ∷ pos 10 ∷ pos (2 ^ 127 - 1) ∷ negsuc (2 ^ 127 - 1) ∷ [])
     ≡ (48 ∷ [])
     ∷ (45 ∷ 49 ∷ [])
     ∷ (49 ∷ 48 ∷ [])
     ∷ (49 ∷ 55 ∷ 48 ∷ 49 ∷ 52 ∷ 49 ∷ 49 ∷ 56 ∷ 51 ∷ 52 ∷ 54 ∷ 48 ∷ 52 ∷ 54 ∷ 57 ∷ 50 ∷ 51 ∷ 49 ∷ 55 ∷ 51 ∷ 49 ∷ 54 ∷ 56 ∷ 55 ∷ 51 ∷ 48 ∷ 51 ∷ 55 ∷ 49 ∷ 53 ∷ 56 ∷ 56 ∷ 52 ∷ 49 ∷ 48 ∷ 53 ∷ 55 ∷ 50 ∷ 55 ∷ [])
     ∷ (45 ∷ 49 ∷ 55 ∷ 48 ∷ 49 ∷ 52 ∷ 49 ∷ 49 ∷ 56 ∷ 51 ∷ 52 ∷ 54 ∷ 48 ∷ 52 ∷ 54 ∷ 57 ∷ 50 ∷ 51 ∷ 49 ∷ 55 ∷ 51 ∷ 49 ∷ 54 ∷ 56 ∷ 55 ∷ 51 ∷ 48 ∷ 51 ∷ 55 ∷ 49 ∷ 53 ∷ 56 ∷ 56 ∷ 52 ∷ 49 ∷ 48 ∷ 53 ∷ 55 ∷ 50 ∷ 56 ∷ [])
     ∷ []
-unfolding digits decimalOf
+unfolding digits integerText
 texts = refl
 
 -- the literals of document 01: `0x8` and 31 zeros, with `-` too, `-0x` and 32 `f`, 2^128-1; 0 with a sign; either side of 2^127
@@ -27,7 +27,7 @@ literals =
     ∷ (false, 2 ^ 127 - 1) ∷ (true, 2 ^ 127 - 1) ∷ (true, 2 ^ 127 + 1) ∷ []
 
 pub integers : map (λ (l : Bool × ℕ). integerOf (l .0) (l .1)) literals
-    ≡ is (negsuc (2 ^ 127 - 1)) ∷ refused ∷ is (pos 1) ∷ is (negsuc 0) ∷ is (pos 0) ∷ is (pos 0) ∷ is (negsuc 1)
+    ≡ is (negsuc (2 ^ 127 - 1)) ∷ none ∷ is (pos 1) ∷ is (negsuc 0) ∷ is (pos 0) ∷ is (pos 0) ∷ is (negsuc 1)
     ∷ is (pos (2 ^ 127 - 1)) ∷ is (negsuc (2 ^ 127 - 2)) ∷ is (pos (2 ^ 127 - 1)) ∷ []
 unfolding integerOf
 integers = refl

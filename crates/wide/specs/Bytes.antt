@@ -1,12 +1,16 @@
 -- Numbers as bytes, little-endian (document 01, 'Trees and their table').
-use Prim.Native.Nat.{ℕ, zero, suc, _+_, _*_, _/_, _%_}
+use Prim.Native.Nat.{ℕ, zero, suc, _+_, _*_, _/_, _%_, _<_}
 use mathlib.Core.Bool.{cond}
 use mathlib.Core.List.{List, [], _∷_}
 use lib.Dec.{leb}
 use lib.IntN.{ℤ, pos}
-use lib.ListN.{length, take, drop}
+use lib.ListN.{length, getD, take, drop}
 use mir.Syntax.{w128}
 use mir.Val.{ofZ, toZ}
+
+-- every number of a list is a byte, as every slice of bytes is known to hold
+abbrev pub Bytes : List ℕ → Type 0
+Bytes t = (i : ℕ) → getD t i 0 < 256
 
 -- the k lowest bytes of n, the least first
 unfoldable pub le : ℕ → ℕ → List ℕ

@@ -1,3 +1,3 @@
 pub mod Value
-pub mod Decimal
+pub mod Text
 pub mod Bytes

@@ -37,14 +37,14 @@ reduced n = toZ w128 n
 
 pub data Integer : Type 0 where
   is : ℤ → Integer
-  refused : Integer
+  none : Integer
 
 -- n or, with `-`, minus n, reduced modulo 2^128; `-` with 2^127 is refused
 unfoldable pub integerOf : Bool → ℕ → Integer
 integerOf false n = is (reduced n)
-integerOf true n = cond (eqb n (2 ^ 127)) refused (is (reduced ((2 ^ 128 - n) % 2 ^ 128)))
+integerOf true n = cond (eqb n (2 ^ 127)) none (is (reduced ((2 ^ 128 - n) % 2 ^ 128)))
 
 -- what each case of `Signed` stands for
 abbrev pub signedOf : Signed → Integer
 signedOf (Is w) = is (value w)
-signedOf Refused = refused
+signedOf Refused = none

@@ -5,7 +5,7 @@ ghost use Prim.Native.Nat.{_+_, _*_, _/_, _%_, _^_, _≤_};
 ghost use lib.ListN.{length};
 ghost use Rattle.lists.specs.Over.{over};
 ghost use Rattle.wide.specs.Value.{val};
-ghost use Rattle.wide.specs.Decimal.{digitsOf};
+ghost use Rattle.wide.specs.Text.{digitsOf};
 
 struct Tenth {
     hi: u64,

@@ -1,4 +1,4 @@
-// Integers of 128 bits: two unsigned limbs while digits are read, an i64 high limb and a u64 low limb once they have a sign; decimal text; 16 bytes.
+// Integers of 128 bits: two unsigned limbs while digits are read, an i64 high limb and a u64 low limb once they have a sign; their text; 16 bytes.
 mod digits;
 
 ghost use mathlib.Core.Path.{_≡_};
@@ -11,7 +11,7 @@ ghost use lib.ListN.{length};
 ghost use lib.Signed.{ltZ};
 ghost use Rattle.lists.specs.Over.{over, fitted};
 ghost use Rattle.wide.specs.Value.{val, value, grown, reduced, integerOf, signedOf};
-ghost use Rattle.wide.specs.Decimal.{decimalOf};
+ghost use Rattle.wide.specs.Text.{integerText};
 ghost use Rattle.wide.specs.Bytes.{le, numberAt, numberIn, wideBytes, wideIn};
 
 pub struct Limbs {
@@ -156,9 +156,9 @@ fn magnitude(w: Wide) -> Limbs
     bits
 }
 
-// How many bytes w takes in decimal.
-pub fn decimal_len(w: Wide) -> usize
-    ensures { λ r. ⌜ r ≡ length (decimalOf (value w)) ⌝ }
+// How many bytes the text of w takes.
+pub fn text_len(w: Wide) -> usize
+    ensures { λ r. ⌜ r ≡ length (integerText (value w)) ⌝ }
 {
     let k = digits::count(magnitude(w));
     if negative(w) {
@@ -167,9 +167,9 @@ pub fn decimal_len(w: Wide) -> usize
     k
 }
 
-// Puts w in decimal at the front of out and answers its length; a room that is too short stays as it was.
-pub fn put_decimal(w: Wide, out: &mut [u8]) -> usize
-    ensures { λ r. ⌜ (r ≡ length (decimalOf (value w))) × (now (out .exit) ≡ fitted (decimalOf (value w)) (now (out .entry))) ⌝ }
+// Puts the text of w at the front of out and answers its length; a room that is too short stays as it was.
+pub fn put_text(w: Wide, out: &mut [u8]) -> usize
+    ensures { λ r. ⌜ (r ≡ length (integerText (value w))) × (now (out .exit) ≡ fitted (integerText (value w)) (now (out .entry))) ⌝ }
 {
     let n = magnitude(w);
     let k = digits::count(n);

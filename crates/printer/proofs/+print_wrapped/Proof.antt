@@ -23,7 +23,7 @@ use Rattle.printer.proofs.gaps.put_close.Reads as put-close-reads
 use Rattle.printer.proofs.gaps.put_gap.Reads as put-gap-reads
 use Rattle.printer.proofs.put_name.Reads as put-name-reads
 use Rattle.table.proofs.record_at.Reads as record-at-reads
-use Rattle.wide.proofs.put_decimal.Reads as put-decimal-reads
+use Rattle.wide.proofs.put_text.Reads as put-text-reads
 use Rattle.wide.proofs.wide_at.Reads as wide-at-reads
 use Rattle.printer.proofs.+print_wrapped.{statement}
 use Rattle.printer.proofs.+print_wrapped.Tie.{close}
@@ -41,7 +41,7 @@ print-wrapped-below t =
 
 -- the contracts of the functions that it calls
 abbrev calls : ℕ → print-wrapped-lts.Claims
-calls t = (record-at-reads.Asked, record-at-reads.Learnt, put-reads.Asked, put-reads.Learnt, wide-at-reads.Asked, wide-at-reads.Learnt, put-decimal-reads.Asked, put-decimal-reads.Learnt, put-name-reads.Asked, put-name-reads.Learnt, least-reads.Asked, least-reads.Learnt, print-wrapped-below t, print-wrapped.Post, fits-reads.Asked, fits-reads.Learnt, print-flat-reads.Asked, print-flat-reads.Learnt, put-byte-reads.Asked, put-byte-reads.Learnt, put-gap-reads.Asked, put-gap-reads.Learnt, put-close-reads.Asked, put-close-reads.Learnt)
+calls t = (record-at-reads.Asked, record-at-reads.Learnt, put-reads.Asked, put-reads.Learnt, wide-at-reads.Asked, wide-at-reads.Learnt, put-text-reads.Asked, put-text-reads.Learnt, put-name-reads.Asked, put-name-reads.Learnt, least-reads.Asked, least-reads.Learnt, print-wrapped-below t, print-wrapped.Post, fits-reads.Asked, fits-reads.Learnt, print-flat-reads.Asked, print-flat-reads.Learnt, put-byte-reads.Asked, put-byte-reads.Learnt, put-gap-reads.Asked, put-gap-reads.Learnt, put-close-reads.Asked, put-close-reads.Learnt)
 
 abbrev Inv-loop : print-wrapped-lts.InvT-loop
 Inv-loop t at depth width indent column out₀ n w₀ p₀ i₀ out w p i = Breaking t at depth width indent column n out₀ out w p i
@@ -85,8 +85,8 @@ add-wide-at t c = omega (arith, integer-in _ _ _ (c .before .before .record-at .
 wide-at-requires : (t : ℕ) → print-wrapped-lts.Need-wide-at-requires (calls t) (print-wrapped-at t) print-wrapped.Post Inv-loop μ-loop
 wide-at-requires t c κs = search needs
 
-put-decimal-requires : (t : ℕ) → print-wrapped-lts.Need-put-decimal-requires (calls t) (print-wrapped-at t) print-wrapped.Post Inv-loop μ-loop
-put-decimal-requires t c κs = search needs
+put-text-requires : (t : ℕ) → print-wrapped-lts.Need-put-text-requires (calls t) (print-wrapped-at t) print-wrapped.Post Inv-loop μ-loop
+put-text-requires t c κs = search needs
 
 add-t37 : (t : ℕ) → print-wrapped-lts.Need-add-t37 (calls t) (print-wrapped-at t) print-wrapped.Post Inv-loop μ-loop
 add-t37 t c = omega (arith, integer-in _ _ _ (c .before .before .before .before .before .before .before .record-at .ensures) (c .before .before .before .before .before .enum-told2 .given .1), c .before .before .before .before .before .before .before .before .before .before .pre .1)
@@ -300,7 +300,7 @@ returns-4 : (t : ℕ) → print-wrapped-lts.Need-returns-4 (calls t) (print-wrap
 returns-4 t c =
     let a = c .before .before .before .before .before .before .before in
     let s = a .before .before .before in
-    let e = c .before .before .put-decimal .ensures in
+    let e = c .before .before .put-text .ensures in
     let r = c .before .before .before .before .before .enum-told2 .given .1 in
     let z = integer-value (s .args .t .now) (s .args .at) _ (integer-in _ _ _ (a .record-at .ensures) r) (c .before .before .before .before .wide-at .ensures) in
     let y = integer-found _ _ _ _ (s .pre .1 .3) (a .record-at .ensures) r in
@@ -337,7 +337,7 @@ returns-6 t c =
 pub +print-wrapped-spec : {M : Type 1} → statement M
 +print-wrapped-spec = close μ-print-wrapped λ t. print-wrapped-lts.spec (calls t) (print-wrapped-at t) print-wrapped.Post Inv-loop μ-loop
     (record-at-requires t) (enum-told t) (enum-known-node t) (add-start t) (add-end t) (sub-put t) (part-put-start t) (part-put-end t)
-    (put-requires t) (enum-told-2 t) (add-wide-at t) (wide-at-requires t) (put-decimal-requires t) (add-t37 t) (enum-known-node-2 t)
+    (put-requires t) (enum-told-2 t) (add-wide-at t) (wide-at-requires t) (put-text-requires t) (add-t37 t) (enum-known-node-2 t)
     (put-name-requires t) (least-requires t) (add-print-wrapped t) (sub-print-wrapped t) (add-print-wrapped-2 t) (sub-print-wrapped-2 t)
     (part-print-wrapped-start t) (part-print-wrapped-end t) (print-wrapped-requires t) (add-t42 t) (enum-known-node-3 t) (fits-requires t)
     (print-flat-requires t) (same-length t) (returns t) (put-byte-requires t) (add-p t) (loop-holds t) (least-requires-2 t) (add-put-gap t)

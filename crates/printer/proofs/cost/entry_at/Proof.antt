@@ -57,19 +57,19 @@ add-wide-at c = search needs
 wide-at-requires : tie.Need-wide-at-requires
 wide-at-requires c κs = search needs
 
-decimal-len-requires : tie.Need-decimal-len-requires
-decimal-len-requires c κs = search needs
+text-len-requires : tie.Need-text-len-requires
+text-len-requires c κs = search needs
 
 returns-5 : tie.Need-returns-5
 returns-5 c =
     let b = c .before .before in
     let k = b .before .before .before in
     let l = k .before .before in
-    integer-entered _ _ _ _ (l .u32-at .ensures) (k .u16-at .ensures) _ _ (c .decimal-len .ensures) (c .before .wide-at .ensures)
+    integer-entered _ _ _ _ (l .u32-at .ensures) (k .u16-at .ensures) _ _ (c .text-len .ensures) (c .before .wide-at .ensures)
     (b .before .before .if2 .left) (b .before .if3 .left) (b .if4 .left) (λ i. (l .before .shared-slice-known .given i) .fits) (omega arith)
 
 pub entry-at-spec : {M : Type 1} → statement M
 entry-at-spec =
     tie.close
     (tie.spec u32-at-requires returns add-u16-at u16-at-requires returns-2 add-u32-at u32-at-requires-2 add-t9 returns-3 sub-t10 returns-4 add-wide-at
-    wide-at-requires decimal-len-requires returns-5)
+    wide-at-requires text-len-requires returns-5)

@@ -25,7 +25,7 @@ use Rattle.printer.proofs.room.least.Reads as least-reads
 use Rattle.printer.proofs.room.put.Reads as put-reads
 use Rattle.printer.proofs.room.put_byte.Reads as put-byte-reads
 use Rattle.table.proofs.record_at.Reads as record-at-reads
-use Rattle.wide.proofs.put_decimal.Reads as put-decimal-reads
+use Rattle.wide.proofs.put_text.Reads as put-text-reads
 use Rattle.wide.proofs.wide_at.Reads as wide-at-reads
 use Rattle.printer.proofs.flat.+print_flat.{statement}
 use Rattle.printer.proofs.flat.+print_flat.Tie.{close}
@@ -43,7 +43,7 @@ print-flat-below t =
 
 -- the contracts of the functions that it calls
 abbrev calls : ℕ → print-flat-lts.Claims
-calls t = (record-at-reads.Asked, record-at-reads.Learnt, put-reads.Asked, put-reads.Learnt, wide-at-reads.Asked, wide-at-reads.Learnt, put-decimal-reads.Asked, put-decimal-reads.Learnt, put-name-reads.Asked, put-name-reads.Learnt, least-reads.Asked, least-reads.Learnt, print-flat-below t, print-flat.Post, put-byte-reads.Asked, put-byte-reads.Learnt, symbol-at-reads.Asked, symbol-at-reads.Learnt)
+calls t = (record-at-reads.Asked, record-at-reads.Learnt, put-reads.Asked, put-reads.Learnt, wide-at-reads.Asked, wide-at-reads.Learnt, put-text-reads.Asked, put-text-reads.Learnt, put-name-reads.Asked, put-name-reads.Learnt, least-reads.Asked, least-reads.Learnt, print-flat-below t, print-flat.Post, put-byte-reads.Asked, put-byte-reads.Learnt, symbol-at-reads.Asked, symbol-at-reads.Learnt)
 
 abbrev Inv-loop : print-flat-lts.InvT-loop
 Inv-loop t at depth out₀ n w₀ p₀ i₀ out w p i = Lining t at depth n (eqb i 0) out₀ out w p i
@@ -90,8 +90,8 @@ add-wide-at t c = omega (arith, integer-in _ _ _ (c .before .before .record-at .
 wide-at-requires : (t : ℕ) → print-flat-lts.Need-wide-at-requires (calls t) (print-flat-at t) print-flat.Post Inv-loop μ-loop
 wide-at-requires t c κs = search needs
 
-put-decimal-requires : (t : ℕ) → print-flat-lts.Need-put-decimal-requires (calls t) (print-flat-at t) print-flat.Post Inv-loop μ-loop
-put-decimal-requires t c κs = search needs
+put-text-requires : (t : ℕ) → print-flat-lts.Need-put-text-requires (calls t) (print-flat-at t) print-flat.Post Inv-loop μ-loop
+put-text-requires t c κs = search needs
 
 enum-known-node-2 : (t : ℕ) → print-flat-lts.Need-enum-known-node-2 (calls t) (print-flat-at t) print-flat.Post Inv-loop μ-loop
 enum-known-node-2 t c = search needs
@@ -320,7 +320,7 @@ same-length-2 t c = search needs
 returns-3 : (t : ℕ) → print-flat-lts.Need-returns-3 (calls t) (print-flat-at t) print-flat.Post Inv-loop μ-loop
 returns-3 t c =
     let s = c .before .before .before .before .before .before .before .before .before .before in
-    let e = c .before .before .put-decimal .ensures in
+    let e = c .before .before .put-text .ensures in
     let r = c .before .before .before .before .before .enum-told2 .given .1 in
     let z = integer-value (s .args .t .now) (s .args .at) _ (integer-in _ _ _ (c .before .before .before .before .before .before .before .record-at .ensures) r) (c .before .before .before .before .wide-at .ensures) in
     integer-run _ _ _ _ _ (s .args .out .now) _ (integer-found _ _ _ _ (s .pre .1 .3) (c .before .before .before .before .before .before .before .record-at .ensures) r) z (e .0) (e .1)
@@ -349,7 +349,7 @@ pub +print-flat-spec : {M : Type 1} → statement M
 +print-flat-spec = close μ-print-flat λ t. print-flat-lts.spec (calls t) (print-flat-at t) print-flat.Post Inv-loop μ-loop
     (record-at-requires t) (enum-told t) (enum-known-node t) (add-start t) (add-end t) (sub-put t)
     (part-put-start t) (part-put-end t) (put-requires t) (enum-told-2 t) (add-t32 t) (add-wide-at t)
-    (wide-at-requires t) (put-decimal-requires t) (enum-known-node-2 t) (put-name-requires t) (least-requires t) (add-print-flat t)
+    (wide-at-requires t) (put-text-requires t) (enum-known-node-2 t) (put-name-requires t) (least-requires t) (add-print-flat t)
     (sub-print-flat t) (sub-print-flat-2 t) (part-print-flat-start t) (part-print-flat-end t) (print-flat-requires t) (add-t40 t)
     (enum-known-node-3 t) (put-byte-requires t) (add-p t) (loop-holds t) (least-requires-2 t) (sub-put-byte t)
     (part-put-byte-start t) (part-put-byte-end t) (put-byte-requires-2 t) (add-w t) (least-requires-3 t) (symbol-at-requires t)

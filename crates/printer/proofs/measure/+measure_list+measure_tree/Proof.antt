@@ -29,7 +29,7 @@ use Rattle.printer.proofs.measure.stopped.Reads as stopped-reads
 use Rattle.printer.proofs.measure.+measure_list+measure_tree.{statement}
 use Rattle.printer.proofs.measure.+measure_list+measure_tree.Tie.{close}
 use Rattle.table.proofs.step_at.Reads as step-at-reads
-use Rattle.wide.proofs.decimal_len.Reads as decimal-len-reads
+use Rattle.wide.proofs.text_len.Reads as text-len-reads
 use Rattle.wide.proofs.wide_at.Reads as wide-at-reads
 
 abbrev μ-measure-list : Measures 1 measure-list-kinds.ps ℕ
@@ -87,8 +87,8 @@ measure-tree-calls t = (
   atom-reads.Learnt,
   wide-at-reads.Asked,
   wide-at-reads.Learnt,
-  decimal-len-reads.Asked,
-  decimal-len-reads.Learnt,
+  text-len-reads.Asked,
+  text-len-reads.Learnt,
   measure-tree-below t,
   measure-tree.Post,
   measure-list-below t,
@@ -294,8 +294,8 @@ measure-tree-add-wide-at t c = omega (arith, step-in _ _ (c .before .before .bef
 measure-tree-wide-at-requires : (t : ℕ) → measure-tree-lts.Need-wide-at-requires (measure-tree-calls t) (measure-tree-at t) measure-tree.Post
 measure-tree-wide-at-requires t c κs = search needs
 
-measure-tree-decimal-len-requires : (t : ℕ) → measure-tree-lts.Need-decimal-len-requires (measure-tree-calls t) (measure-tree-at t) measure-tree.Post
-measure-tree-decimal-len-requires t c κs = search needs
+measure-tree-text-len-requires : (t : ℕ) → measure-tree-lts.Need-text-len-requires (measure-tree-calls t) (measure-tree-at t) measure-tree.Post
+measure-tree-text-len-requires t c κs = search needs
 
 measure-tree-atom-requires-2 : (t : ℕ) → measure-tree-lts.Need-atom-requires-2 (measure-tree-calls t) (measure-tree-at t) measure-tree.Post
 measure-tree-atom-requires-2 t c κs = search needs
@@ -356,7 +356,7 @@ measure-tree-returns-3 : (t : ℕ) → measure-tree-lts.Need-returns-3 (measure-
 measure-tree-returns-3 t c = at-symbol _ _ _ _ (c .before .before .before .before .step-at .ensures) _ _ _ _ _ (c .before .before .step2 .given .1) (c .atom .ensures)
 
 measure-tree-returns-4 : (t : ℕ) → measure-tree-lts.Need-returns-4 (measure-tree-calls t) (measure-tree-at t) measure-tree.Post
-measure-tree-returns-4 t c = at-integer _ _ _ _ (c .before .before .before .before .before .step-at .ensures) _ _ _ _ _ _ (c .before .before .before .enum-told .given .1) (c .before .decimal-len .ensures) (c .before .before .wide-at .ensures) (c .atom2 .ensures)
+measure-tree-returns-4 t c = at-integer _ _ _ _ (c .before .before .before .before .before .step-at .ensures) _ _ _ _ _ _ (c .before .before .before .enum-told .given .1) (c .before .text-len .ensures) (c .before .before .wide-at .ensures) (c .atom2 .ensures)
 
 measure-tree-returns-5 : (t : ℕ) → measure-tree-lts.Need-returns-5 (measure-tree-calls t) (measure-tree-at t) measure-tree.Post
 measure-tree-returns-5 t c = binding-good _ _ _ _ (c .before .before .before .before .before .before .before .before .step-at .ensures) _ _ _ _ _ _ (c .before .before .before .before .before .before .step3 .given .1) (c .before .before .before .before .measure-tree .ensures) (c .before .before .if1 .left) (refl, refl, refl, refl, refl)
@@ -414,7 +414,7 @@ pub +measure-list+measure-tree-spec : {M : Type 1} → statement M
     (measure-tree-add-atom-2 t)
     (measure-tree-add-wide-at t)
     (measure-tree-wide-at-requires t)
-    (measure-tree-decimal-len-requires t)
+    (measure-tree-text-len-requires t)
     (measure-tree-atom-requires-2 t)
     (measure-tree-enum-known-step-3 t)
     (measure-tree-sub-n t)

@@ -4,7 +4,7 @@ use Prim.Native.Nat.{ℕ, _+_, _*_, _^_}
 use native.Mathlib.Omega.{arith}
 use lib.ListN.{length}
 use Rattle.wide.specs.Value.{val}
-use Rattle.wide.specs.Decimal.{digitsOf}
+use Rattle.wide.specs.Text.{digitsOf}
 use Rattle.wide.proofs.Decimals.{text-top}
 use Rattle.wide.proofs.Spelling.{Counted, big, both, alone, falls, count-more, count-small}
 use borrow.Author.Needs.{needs}

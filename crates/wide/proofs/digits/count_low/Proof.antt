@@ -3,7 +3,7 @@ use mathlib.Core.Path.{refl}
 use Prim.Native.Nat.{_+_}
 use native.Mathlib.Omega.{arith}
 use lib.ListN.{length}
-use Rattle.wide.specs.Decimal.{digitsOf}
+use Rattle.wide.specs.Text.{digitsOf}
 use Rattle.wide.proofs.Decimals.{text-top}
 use Rattle.wide.proofs.Spelling.{Counted, low-lt, count-more, count-small, count-one}
 use Rattle.wide.proofs.digits.count_low.Statement.{statement}

@@ -4,7 +4,7 @@ use native.Mathlib.Omega.{arith}
 use lib.ListN.{length}
 use Rattle.lists.specs.Over.{over}
 use Rattle.wide.specs.Value.{val}
-use Rattle.wide.specs.Decimal.{digitsOf}
+use Rattle.wide.specs.Text.{digitsOf}
 use Rattle.wide.proofs.Spelling.{Fill, begin, low, step, big, both, falls, glyph-fits, room-low, rest-low}
 use borrow.Author.Needs.{needs}
 use Rattle.wide.proofs.digits.put_digits.Statement.{statement}

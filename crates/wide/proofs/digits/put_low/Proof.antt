@@ -3,7 +3,7 @@ use mathlib.Core.Path.{refl}
 use native.Mathlib.Omega.{arith}
 use lib.ListN.{length, length-set}
 use Rattle.lists.specs.Over.{over}
-use Rattle.wide.specs.Decimal.{digitsOf}
+use Rattle.wide.specs.Text.{digitsOf}
 use Rattle.wide.proofs.Spelling.{Fill, begin, low, step, last, low-lt}
 use borrow.Author.Needs.{needs}
 use Rattle.wide.proofs.digits.put_low.Statement.{statement}

@@ -1,4 +1,4 @@
--- `wide::decimal_len`: the digits of the magnitude, and a place for the minus sign.
+-- `wide::text_len`: the digits of the magnitude, and a place for the minus sign.
 use mathlib.Core.Path.{ap, _∙_, sym}
 use native.Mathlib.Omega.{arith}
 use lib.ListN.{length}
@@ -6,8 +6,8 @@ use Rattle.wide.specs.Value.{val, value}
 use Rattle.wide.proofs.Decimals.{text-top}
 use Rattle.wide.proofs.Spelling.{minus-text, plain-text}
 use borrow.Author.Needs.{needs}
-use Rattle.wide.proofs.decimal_len.Statement.{statement}
-use Rattle.wide.proofs.decimal_len.Tie as tie
+use Rattle.wide.proofs.text_len.Statement.{statement}
+use Rattle.wide.proofs.text_len.Tie as tie
 
 magnitude-requires : tie.Need-magnitude-requires
 magnitude-requires c κs = search needs
@@ -31,7 +31,7 @@ returns-2 c =
     let e = plain-text (value (c .before .before .before .before .args .w)) _ _ (c .before .before .before .magnitude .ensures) (c .before .negative .ensures) (c .if1 .left) in
     c .before .before .count .ensures ∙ sym (ap length e)
 
-pub decimal-len-spec : {M : Type 1} → statement M
-decimal-len-spec =
+pub text-len-spec : {M : Type 1} → statement M
+text-len-spec =
     tie.close
     (tie.spec magnitude-requires count-requires negative-requires add-result returns returns-2)

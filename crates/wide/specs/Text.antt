@@ -1,4 +1,4 @@
--- An integer in decimal, no plus sign, no leading zeros (document 01, 'How a table is laid out').
+-- The text of an integer: decimal, no plus sign, no leading zeros (document 01, 'How a table is laid out').
 use Prim.Native.Nat.{ℕ, zero, suc, _+_, _/_, _%_}
 use mathlib.Core.Bool.{cond}
 use mathlib.Core.List.{List, [], _∷_, _++_}
@@ -14,6 +14,6 @@ digits (suc k) n = cond (ltb n 10) ((48 + n) ∷ []) (digits k (n / 10) ++ ((48 
 abbrev pub digitsOf : ℕ → List ℕ
 digitsOf n = digits 39 n
 
-unfoldable pub decimalOf : ℤ → List ℕ
-decimalOf (pos n) = digitsOf n
-decimalOf (negsuc n) = 45 ∷ digitsOf (suc n)
+unfoldable pub integerText : ℤ → List ℕ
+integerText (pos n) = digitsOf n
+integerText (negsuc n) = 45 ∷ digitsOf (suc n)

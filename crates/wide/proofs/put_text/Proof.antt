@@ -1,4 +1,4 @@
--- `wide::put_decimal`: the text's length is known before a byte is put; a minus sign comes first, and the digits go into the rest of the buffer.
+-- `wide::put_text`: the text's length is known before a byte is put; a minus sign comes first, and the digits go into the rest of the buffer.
 use mathlib.Core.Path.{sym, ap, _∙_}
 use mathlib.Core.List.{List}
 use Prim.Native.Nat.{ℕ}
@@ -8,14 +8,14 @@ use lib.ListN.{length, length-set}
 use Rattle.lists.specs.Over.{over}
 use Rattle.lists.proofs.Writing.{wrote-length}
 use Rattle.wide.specs.Value.{val, value}
-use Rattle.wide.specs.Decimal.{digitsOf, decimalOf}
+use Rattle.wide.specs.Text.{digitsOf, integerText}
 use Rattle.wide.proofs.Decimals.{text-top}
 use Rattle.wide.proofs.Spelling.{minus-text, plain-text}
 use Rattle.lists.proofs.Blocks.{fits-in, no-room}
 use Rattle.wide.proofs.Putting.{minus-put, minus-room}
 use borrow.Author.Needs.{needs}
-use Rattle.wide.proofs.put_decimal.Statement.{statement}
-use Rattle.wide.proofs.put_decimal.Tie as tie
+use Rattle.wide.proofs.put_text.Statement.{statement}
+use Rattle.wide.proofs.put_text.Tie as tie
 
 magnitude-requires : tie.Need-magnitude-requires
 magnitude-requires c κs = search needs
@@ -34,7 +34,7 @@ returns c =
     let z = value (c .before .before .before .before .before .before .args .w) in
     let e = minus-text z _ _ (c .before .before .before .before .magnitude .ensures) (c .before .before .negative .ensures) (c .before .if1 .taken) in
     let k = c .before .before .before .count .ensures in
-    (omega (arith, k, ap length e), no-room (decimalOf z) _ (omega (arith, k, ap length e, c .if2 .taken)))
+    (omega (arith, k, ap length e), no-room (integerText z) _ (omega (arith, k, ap length e, c .if2 .taken)))
 
 slice-write-out : tie.Need-slice-write-out
 slice-write-out c = search needs
@@ -68,14 +68,14 @@ returns-2 c =
     let k = c .before .before .before .before .before .before .before .count .ensures in
     let o = c .before .before .before .before .if2 .left in
     let n = c .before .before .before .before .before .before .before .before .magnitude .result in
-    (omega (arith, k, ap length e), fits-in (decimalOf z) (now (a .out)) _ (omega (arith, k, o, ap length e)) (minus-put (now (a .out)) _ (digitsOf (val n)) (omega (arith, k, o)) (c .before .before .put-digits .ensures) .holds ∙ ap (λ (t : List ℕ). over t (now (a .out))) (sym e)))
+    (omega (arith, k, ap length e), fits-in (integerText z) (now (a .out)) _ (omega (arith, k, o, ap length e)) (minus-put (now (a .out)) _ (digitsOf (val n)) (omega (arith, k, o)) (c .before .before .put-digits .ensures) .holds ∙ ap (λ (t : List ℕ). over t (now (a .out))) (sym e)))
 
 returns-3 : tie.Need-returns-3
 returns-3 c =
     let z = value (c .before .before .before .before .before .before .args .w) in
     let e = plain-text z _ _ (c .before .before .before .before .magnitude .ensures) (c .before .before .negative .ensures) (c .before .if1 .left) in
     let k = c .before .before .before .count .ensures in
-    (k ∙ sym (ap length e), no-room (decimalOf z) _ (omega (arith, k, ap length e, c .if3 .taken)))
+    (k ∙ sym (ap length e), no-room (integerText z) _ (omega (arith, k, ap length e, c .if3 .taken)))
 
 put-digits-requires-2 : tie.Need-put-digits-requires-2
 put-digits-requires-2 c κs = search needs
@@ -90,12 +90,12 @@ returns-4 c =
     let e = plain-text z _ _ (c .before .before .before .before .before .before .before .before .magnitude .ensures) (c .before .before .before .before .before .before .negative .ensures) (c .before .before .before .before .before .if1 .left) in
     let k = c .before .before .before .before .before .before .before .count .ensures in (
       k ∙ sym (ap length e),
-      fits-in (decimalOf z) (now (a .out)) _ (omega (arith, k, c .before .before .before .before .if3 .left, ap length e))
+      fits-in (integerText z) (now (a .out)) _ (omega (arith, k, c .before .before .before .before .if3 .left, ap length e))
           (c .before .before .put-digits2 .ensures ∙ ap (λ (t : List ℕ). over t (now (a .out))) (sym e)),
     )
 
-pub put-decimal-spec : {M : Type 1} → statement M
-put-decimal-spec =
+pub put-text-spec : {M : Type 1} → statement M
+put-text-spec =
     tie.close
     (tie.spec
     magnitude-requires
