@@ -2,7 +2,7 @@
 use Prim.Native.Nat.{ℕ, _+_, _-_}
 use mathlib.Core.Bool.{Bool, true, false, cond}
 use lib.Dec.{eqb, leb, ltb}
-use Rattle.refusals.specs.Numbers.{sourceLimit, tooLong, formFeed, openComment, noDigits}
+use Rattle.refusals.specs.Numbers.{sourceLimit, tooLong, formFeed, openComment}
 use Rattle.refusals.specs.Result.{Result, ok, refused}
 use Rattle.classes.specs.declared.Class.{Class}
 use Rattle.classes.specs.declared.Class.the-variants.{Space, LineEnd, Semicolon, LParen, RParen, AtSign, FormFeed, Minus, Digit, Other}
@@ -23,7 +23,7 @@ closing Blank p = ok end
 closing Line p = ok end
 closing (Opener st) p = ok (is (token openParen st 1))
 closing (Symbol st) p = ok (is (token symbol st (p - st)))
-closing (Sign st) p = refused noDigits st
+closing (Sign st) p = concluded true st p Empty
 closing (Block st d h) p = refused openComment st
 closing (Zero st minus) p = concluded minus st p (Number (split 0))
 closing (Digits st minus r x) p = concluded minus st p x
@@ -81,7 +81,7 @@ turn Blank p b = inBlank (classOf b) p b
 turn Line p b = ok (Go (cond (lineEnd (classOf b)) Blank Line))
 turn (Opener st) p b = cond (semicolon (classOf b)) (ok (Go (Block st 1 Clear))) (ok (Stay (token openParen st 1)))
 turn (Symbol st) p b = cond (symbolOther (classOf b)) (ok (Go (Symbol st))) (ok (Stay (token symbol st (p - st))))
-turn (Sign st) p b = cond (literalByte b) (ok (Go (begun st true b))) (refused noDigits st)
+turn (Sign st) p b = cond (literalByte b) (ok (Go (begun st true b))) (endedBy (concluded true st p Empty))
 turn (Block st d h) p b = ok (Go (inBlock (classOf b) st d h))
 turn (Zero st minus) p b = cond (eqb (radixOf 48 b) 10) (inDigits st minus 10 (Number (split 0)) p b) (ok (Go (Digits st minus (radixOf 48 b) Empty)))
 turn (Digits st minus r x) p b = inDigits st minus r x p b

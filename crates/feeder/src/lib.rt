@@ -108,10 +108,7 @@ fn closing(mode: Mode, place: usize) -> Lexed
         Mode::Line => Lexed::End,
         Mode::Opener { start } => Lexed::Token(Token::LParen, start),
         Mode::Symbol { start } => Lexed::Token(Token::Symbol(lists::less(place, start)), start),
-        Mode::Sign { start } => Lexed::Refused(Refusal {
-            number: refusals::NO_DIGITS,
-            place: start,
-        }),
+        Mode::Sign { start } => lexer::literal::concluded(true, start, place, Reading::Empty),
         Mode::Block {
             start,
             depth: _,

@@ -49,11 +49,8 @@ pub fn in_sign(piece: &[u8], place: usize, i: usize, stop: usize, start: usize) 
     if classes::is_literal_byte(b) {
         return Moved::On(begun_by(start, true, b), i + 1);
     }
-    Moved::Halt(
-        Refusal {
-            number: refusals::NO_DIGITS,
-            place: start,
-        },
+    ended(
+        lexer::literal::concluded(true, start, place + i, Reading::Empty),
         i,
     )
 }

@@ -9,7 +9,7 @@ use Rattle.refusals.specs.Result.{ok, refused}
 use Rattle.classes.specs.Classes.{digitOf, literalByte}
 use Rattle.wide.specs.declared.Grown.{Grown}
 use Rattle.wide.specs.declared.Grown.the-variants.{Fits, Over as Above}
-use Rattle.wide.specs.Value.{val, grown, Integer, is as isInteger, refused as noInteger, integerOf}
+use Rattle.wide.specs.Value.{val, grown, Integer, is as isInteger, none as noInteger, integerOf}
 use Rattle.lexer.specs.Tokens.{Answer, is, token, int}
 pub use Rattle.lexer.specs.declared.literal.Reading.{Reading}
 pub use Rattle.lexer.specs.declared.literal.Reading.the-variants.{Empty, Foreign, Over, Number}
@@ -52,11 +52,15 @@ abbrev pub signed : ℕ → ℕ → Integer → Answer
 signed st e (isInteger z) = ok (is (token (int z) st (e - st)))
 signed st e noInteger = refused minusLowest st
 
--- the answer for a literal from st up to e: every refusal of a literal names its start
+-- the place that the refusal of a literal from st names, by what was read: its start, whatever that was
+abbrev pub placeOf : ℕ → Reading → ℕ
+placeOf st x = st
+
+-- the answer for a literal from st up to e: every refusal of a literal is given here
 unfoldable pub concluded : Bool → ℕ → ℕ → Reading → Answer
-concluded minus st e Empty = refused noDigits st
-concluded minus st e Foreign = refused foreignDigit st
-concluded minus st e Over = refused tooLarge st
+concluded minus st e Empty = refused noDigits (placeOf st Empty)
+concluded minus st e Foreign = refused foreignDigit (placeOf st Foreign)
+concluded minus st e Over = refused tooLarge (placeOf st Over)
 concluded minus st e (Number n) = signed st e (integerOf minus (val n))
 
 -- all following digits, which stand at i

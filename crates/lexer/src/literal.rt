@@ -10,7 +10,7 @@ ghost use Prim.Native.Nat.{_≤_};
 ghost use lib.ListN.{drop};
 ghost use Rattle.wide.specs.Value.{val};
 ghost use Rattle.lexer.specs.Tokens.{answerOf};
-ghost use Rattle.lexer.specs.Literals.{Empty as NoDigit, taken, grow, reading, literalEnd, radixOf, concluded};
+ghost use Rattle.lexer.specs.Literals.{Empty as NoDigit, taken, grow, reading, literalEnd, radixOf, placeOf, concluded};
 
 // What the digits so far read as: a foreign digit or one too many stays.
 pub enum Reading {
@@ -91,14 +91,22 @@ pub fn radix_of(b: u8, c: u8) -> u8
     10
 }
 
-// The answer for a literal from `start` up to `end`.
+// The place that a literal's refusal names, by what was read: its start, whatever that was.
+fn place_of(start: usize, x: Reading) -> usize
+    ensures { λ r. ⌜ r ≡ placeOf start x ⌝ }
+{
+    start
+}
+
+// The answer for a literal from `start` up to `end`: every refusal of a literal is given here.
 pub fn concluded(minus: bool, start: usize, end: usize, x: Reading) -> Lexed
     ensures { λ r. ⌜ answerOf r ≡ concluded minus start end x ⌝ }
 {
+    let place = place_of(start, x);
     match x {
-        Reading::Empty => refused(refusals::NO_DIGITS, start),
-        Reading::Foreign => refused(refusals::FOREIGN_DIGIT, start),
-        Reading::Over => refused(refusals::TOO_LARGE, start),
+        Reading::Empty => refused(refusals::NO_DIGITS, place),
+        Reading::Foreign => refused(refusals::FOREIGN_DIGIT, place),
+        Reading::Over => refused(refusals::TOO_LARGE, place),
         Reading::Number(n) => match wide::with_sign(n, minus) {
             Signed::Refused => refused(refusals::MINUS_LOWEST, start),
             Signed::Is(w) => Lexed::Token(Token::Int(w, lists::less(end, start)), start),

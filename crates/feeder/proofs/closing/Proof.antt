@@ -38,6 +38,9 @@ enum-known-mode-6 c = search needs
 concluded-requires-2 : tie.Need-concluded-requires-2
 concluded-requires-2 c κs = search needs
 
+concluded-requires-3 : tie.Need-concluded-requires-3
+concluded-requires-3 c κs = search needs
+
 returns : tie.Need-returns
 unfolding closing
 returns c = rw (c .enum-told .given .1) refl
@@ -56,7 +59,7 @@ returns-4 c = rw (c .less .ensures, c .before .before .mode2 .given .1) refl
 
 returns-5 : tie.Need-returns-5
 unfolding closing
-returns-5 c = rw (c .before .mode3 .given .1) refl
+returns-5 c = c .concluded .ensures ∙ rw (c .before .before .mode3 .given .1) refl
 
 returns-6 : tie.Need-returns-6
 unfolding closing
@@ -64,11 +67,11 @@ returns-6 c = rw (c .before .mode4 .given .1) refl
 
 returns-7 : tie.Need-returns-7
 unfolding closing
-returns-7 c = c .concluded .ensures ∙ rw (c .before .before .mode5 .given .1) refl
+returns-7 c = c .concluded2 .ensures ∙ rw (c .before .before .mode5 .given .1) refl
 
 returns-8 : tie.Need-returns-8
 unfolding closing
-returns-8 c = c .concluded2 .ensures ∙ rw (c .before .before .mode6 .given .1) refl
+returns-8 c = c .concluded3 .ensures ∙ rw (c .before .before .mode6 .given .1) refl
 
 pub closing-spec : {M : Type 1} → statement M
 closing-spec =
@@ -80,11 +83,12 @@ closing-spec =
     enum-known-mode-2
     less-requires
     enum-known-mode-3
+    concluded-requires
     enum-known-mode-4
     enum-known-mode-5
-    concluded-requires
-    enum-known-mode-6
     concluded-requires-2
+    enum-known-mode-6
+    concluded-requires-3
     returns
     returns-2
     returns-3

@@ -6,6 +6,9 @@ use borrow.Author.Needs.{needs}
 use Rattle.lexer.proofs.literal.concluded.Statement.{statement}
 use Rattle.lexer.proofs.literal.concluded.Tie as tie
 
+place-of-requires : tie.Need-place-of-requires
+place-of-requires c κs = search needs
+
 enum-told : tie.Need-enum-told
 enum-told c = search needs
 
@@ -44,15 +47,15 @@ less-requires c κs = search needs
 
 returns : tie.Need-returns
 unfolding concluded
-returns c = simp (c .refused .ensures, c .before .enum-told .given .1)
+returns c = simp (c .refused .ensures, c .before .before .before .place-of .ensures, c .before .enum-told .given .1)
 
 returns-2 : tie.Need-returns-2
 unfolding concluded
-returns-2 c = simp (c .refused2 .ensures, c .before .enum-told2 .given .1)
+returns-2 c = simp (c .refused2 .ensures, c .before .before .before .place-of .ensures, c .before .enum-told2 .given .1)
 
 returns-3 : tie.Need-returns-3
 unfolding concluded
-returns-3 c = simp (c .refused3 .ensures, c .before .enum-told3 .given .1)
+returns-3 c = simp (c .refused3 .ensures, c .before .before .before .place-of .ensures, c .before .enum-told3 .given .1)
 
 returns-4 : tie.Need-returns-4
 unfolding concluded
@@ -72,6 +75,7 @@ pub concluded-spec : {M : Type 1} → statement M
 concluded-spec =
     tie.close
     (tie.spec
+    place-of-requires
     enum-told
     refused-requires
     enum-told-2
