@@ -3,3 +3,4 @@ pub mod Choice
 pub mod Writing
 pub mod Each
 pub mod Blocks
+pub mod Stands

@@ -1,4 +1,3 @@
-pub mod Stands
 pub mod Integers
 pub mod Reading
 pub mod Parsing

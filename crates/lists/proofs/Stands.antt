@@ -1,4 +1,4 @@
--- Bytes that stand in a table at a place: taken apart, joined, and read back. Assumes nothing.
+-- Bytes that stand in a list at a place: taken apart, joined, and read back. Assumes nothing.
 use mathlib.Core.Path.{_≡_, refl, ap, sym, _∙_}
 use mathlib.Core.List.{List, [], _++_, append-assoc}
 use Prim.Native.Nat.{ℕ, _+_, _-_, _≤_}
@@ -41,7 +41,7 @@ stands-length t p bs h s =
     ∙ ap (λ (k : ℕ). length bs + k) (length-drop (p + length bs) t) in
     omega arith
 
--- any part of a table stands where it was taken
+-- any part of a list stands where it was taken
 pub part-size : (t : List ℕ) (p k : ℕ) → p + k ≤ length t → length (take k (drop p t)) ≡ k
 part-size t p k h = length-take-le k (drop p t) (rw (length-drop p t) (omega arith))
 
