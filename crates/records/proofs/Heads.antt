@@ -71,6 +71,10 @@ head-in t at =
     pick P (ltb left len) (λ _. tt) (λ e.
     pick P (ltb len headLen) (λ _. tt) (λ f. (refl, refl, ltb-false len headLen f, ltb-false left len e))))
 
+-- the same of a head x that was read as y
+pub read-head : (t : List ℕ) (at : ℕ) (x y : Head) → x ≡ headAt t at → x ≡ y → HeadIn t at y
+read-head t at x y e e′ = subst (HeadIn t at) (sym e ∙ e′) (head-in t at)
+
 -- ---- a record that stands at a place
 
 -- the parts of the record of a kind with the payload bs

@@ -6,10 +6,12 @@ use Prim.Native.Nat.{ℕ}
 use lib.ListN.{replicate, take}
 use Rattle.wide.specs.Bytes.{le, number}
 use Rattle.classes.specs.Classes.{classOf}
-use Rattle.table.specs.Trees.{Trees, symbol, integer, binding, list, none, more, runsOn, isSymbol, record-of, records, recordsOf}
+use Rattle.refusals.specs.Result.{ok, refused}
+use Rattle.records.specs.Records.{record-of, headAt}
+use Rattle.table.specs.Trees.{Trees, symbol, integer, binding, list, none, more, runsOn, isSymbol, records, recordsOf}
 use Rattle.table.specs.Records.{recordAt}
 use Rattle.table.specs.Printable.{lowestInteger}
-use Rattle.table.specs.Decoding.{found, refused, itemsAt, stepAt, treeAt, treesAt, tableOf}
+use Rattle.table.specs.Decoding.{found, itemsAt, stepAt, treeAt, treesAt, tableOf}
 
 -- `x @ (a)`
 abbrev pub tree : Trees
@@ -19,20 +21,20 @@ abbrev pub bytes : List ℕ
 bytes =
     7 ∷ 0 ∷ 0 ∷ 0 ∷ 3 ∷ 0 ∷ 120 ∷ 10 ∷ 0 ∷ 0 ∷ 0 ∷ 4 ∷ 0 ∷ 1 ∷ 0 ∷ 0 ∷ 0 ∷ 7 ∷ 0 ∷ 0 ∷ 0 ∷ 1 ∷ 0 ∷ 97 ∷ []
 
-pub worked : (recordsOf tree ≡ bytes) × (tableOf true bytes ≡ found tree 24)
-unfolding le number classOf runsOn isSymbol record-of records recordAt stepAt itemsAt treeAt treesAt tableOf
+pub worked : (recordsOf tree ≡ bytes) × (tableOf true bytes ≡ ok (found tree 24))
+unfolding le number classOf runsOn isSymbol record-of records headAt recordAt stepAt itemsAt treeAt treesAt tableOf
 worked = (refl, refl)
 
 -- the item of the list is missing; a record cut by the end; an empty symbol
 pub refused-tables : (tableOf false (take 17 bytes) ≡ refused 15 17) × (tableOf false (take 6 bytes) ≡ refused 15 0)
     × (tableOf false (6 ∷ 0 ∷ 0 ∷ 0 ∷ 1 ∷ 0 ∷ []) ≡ refused 16 0)
-unfolding le number classOf runsOn isSymbol record-of records recordAt stepAt itemsAt treeAt treesAt tableOf
+unfolding le number classOf runsOn isSymbol record-of records headAt recordAt stepAt itemsAt treeAt treesAt tableOf
 refused-tables = (refl, refl, refl)
 
 -- -2^127 is a good integer, and refused at printing
 abbrev lowest-record : List ℕ
 lowest-record = 22 ∷ 0 ∷ 0 ∷ 0 ∷ 2 ∷ 0 ∷ (replicate 15 0 ++ (128 ∷ []))
 
-pub lowest-tables : (tableOf true lowest-record ≡ refused 17 0) × (tableOf false lowest-record ≡ found (more (integer lowestInteger) none) 22)
-unfolding le number classOf runsOn isSymbol record-of records recordAt stepAt itemsAt treeAt treesAt tableOf
+pub lowest-tables : (tableOf true lowest-record ≡ refused 17 0) × (tableOf false lowest-record ≡ ok (found (more (integer lowestInteger) none) 22))
+unfolding le number classOf runsOn isSymbol record-of records headAt recordAt stepAt itemsAt treeAt treesAt tableOf
 lowest-tables = (refl, refl)

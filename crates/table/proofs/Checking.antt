@@ -7,33 +7,36 @@ use native.Mathlib.Omega.{arith}
 use lib.ListN.{take, drop}
 use lib.Dec.{ltb}
 use Rattle.refusals.specs.declared.Refusal.{Refusal}
+use Rattle.refusals.specs.Result.{Result, ok, refused}
+use Rattle.table.specs.Kinds.{integerLen, listLen}
 use Rattle.table.specs.Trees.{Tree}
-use Rattle.table.specs.Records.{payload}
-use Rattle.table.specs.Decoding.{Found, found, refused, andThen, itemsAt, Step, stepAt, treeAt}
-use Rattle.table.specs.Walking.{Walked, Past, Stopped, walkOf, pastOf}
+use Rattle.records.specs.Records.{headLen, payload}
+use Rattle.table.specs.Decoding.{Found, found, andThen, itemsAt, Step, stepAt, treeAt}
+use Rattle.table.specs.PrivateWalking.{Walked, Past, Stopped, walkOf}
+use Rattle.table.specs.Past.{pastOf}
 use Rattle.table.specs.declared.Step.the-variants as step
 use Rattle.table.proofs.Steps.{step-tree, Gone, gone-stop, gone-end}
 
 -- what `&t[start..end]` holds between the header of a record and its end
-pub part : (t : List ℕ) (at len : ℕ) → take (at + len - (at + 6)) (drop (at + 6) t) ≡ payload t at len
-part t at len = let e : at + len - (at + 6) ≡ len - 6 = omega arith in rw e refl
+pub part : (t : List ℕ) (at len : ℕ) → take (at + len - (at + headLen)) (drop (at + headLen) t) ≡ payload t at len
+part t at len = let e : at + len - (at + headLen) ≡ len - headLen = omega arith in rw e refl
 
-walk-map : {A B : Type 0} (g : A → B) (y : Found A) → walkOf (andThen y (λ x q. found (g x) q)) ≡ walkOf y
-walk-map g (found x q) = refl
+walk-map : {A B : Type 0} (g : A → B) (y : Result (Found A)) → walkOf (andThen y (λ x q. ok (found (g x) q))) ≡ walkOf y
+walk-map g (ok (found x q)) = refl
 walk-map g (refused n a) = refl
 
 -- ---- what was looked for, by what the walk answered
 
-pub record Passed (y : Found Tree) (q : ℕ) : Type 0 where
+pub record Passed (y : Result (Found Tree)) (q : ℕ) : Type 0 where
   pub tree : Tree
-  pub is : y ≡ found tree q
+  pub is : y ≡ ok (found tree q)
 
-passed-of : (y : Found Tree) (q : ℕ) → Past q ≡ walkOf y → Passed y q
-passed-of (found z r) q e = let er : r ≡ q = cc in record { tree = z; is = ap (found z) er }
+passed-of : (y : Result (Found Tree)) (q : ℕ) → Past q ≡ walkOf y → Passed y q
+passed-of (ok (found z r)) q e = let er : r ≡ q = cc in record { tree = z; is = ap (λ (k : ℕ). ok (found z k)) er }
 passed-of (refused n a) q e = let z : _≡_ {A = ℕ} 0 1 = cc in absurd (omega arith)
 
-refusal-of : (y : Found Tree) (r : Refusal) → Stopped r ≡ walkOf y → y ≡ refused (r .number) (r .place)
-refusal-of (found z q) r e = cc
+refusal-of : (y : Result (Found Tree)) (r : Refusal) → Stopped r ≡ walkOf y → y ≡ refused (r .number) (r .place)
+refusal-of (ok (found z q)) r e = cc
 refusal-of (refused n a) r e = let er : _≡_ {A = Refusal} (record { number = n; place = a }) r = cc in rw (← er) refl
 
 module _ (t : List ℕ) (w : Bool) (d p : ℕ) (x : Walked) (e : x ≡ walkOf (treeAt t w d p)) where
@@ -58,19 +61,19 @@ module _ (t : List ℕ) (w : Bool) (d at : ℕ) (s : Step) (e : s ≡ stepAt t w
   pub at-symbol : (len : ℕ) → s ≡ step.Symbol len → Past (at + len) ≡ walkOf (treeAt t w d at)
   at-symbol len e′ = sym (ap walkOf (step-tree t w d at s (step.Symbol len) e e′))
 
-  pub at-integer : s ≡ step.Integer → Past (at + 22) ≡ walkOf (treeAt t w d at)
+  pub at-integer : s ≡ step.Integer → Past (at + integerLen) ≡ walkOf (treeAt t w d at)
   at-integer e′ = sym (ap walkOf (step-tree t w d at s step.Integer e e′))
 
   pub at-binding : (len : ℕ) → s ≡ step.Binding len → walkOf (treeAt t w (d - 1) (at + len)) ≡ walkOf (treeAt t w d at)
   at-binding len e′ = sym (ap walkOf (step-tree t w d at s (step.Binding len) e e′) ∙ walk-map _ (treeAt t w (d - 1) (at + len)))
 
-  at-items : (n : ℕ) → s ≡ step.List n → walkOf (treeAt t w d at) ≡ walkOf (itemsAt (treeAt t w (d - 1)) n (at + 10))
-  at-items n e′ = ap walkOf (step-tree t w d at s (step.List n) e e′) ∙ walk-map _ (itemsAt (treeAt t w (d - 1)) n (at + 10))
+  at-items : (n : ℕ) → s ≡ step.List n → walkOf (treeAt t w d at) ≡ walkOf (itemsAt (treeAt t w (d - 1)) n (at + listLen))
+  at-items n e′ = ap walkOf (step-tree t w d at s (step.List n) e e′) ∙ walk-map _ (itemsAt (treeAt t w (d - 1)) n (at + listLen))
 
-  pub at-list : (n k p : ℕ) → s ≡ step.List n → Gone (treeAt t w (d - 1)) n (at + 10) k p → n ≤ k → Past p ≡ walkOf (treeAt t w d at)
-  at-list n k p e′ g h = sym (at-items n e′ ∙ ap walkOf (gone-end _ n (at + 10) k p g h))
+  pub at-list : (n k p : ℕ) → s ≡ step.List n → Gone (treeAt t w (d - 1)) n (at + listLen) k p → n ≤ k → Past p ≡ walkOf (treeAt t w d at)
+  at-list n k p e′ g h = sym (at-items n e′ ∙ ap walkOf (gone-end _ n (at + listLen) k p g h))
 
-  pub at-stop : (n k p : ℕ) (r : Refusal) (x : Walked) → s ≡ step.List n → Gone (treeAt t w (d - 1)) n (at + 10) k p → k < n
+  pub at-stop : (n k p : ℕ) (r : Refusal) (x : Walked) → s ≡ step.List n → Gone (treeAt t w (d - 1)) n (at + listLen) k p → k < n
       → x ≡ walkOf (treeAt t w (d - 1) p) → x ≡ Stopped r → Stopped r ≡ walkOf (treeAt t w d at)
   at-stop n k p r x e′ g h f f′ =
-      sym (at-items n e′ ∙ ap walkOf (gone-stop _ n (at + 10) k p g (r .number) (r .place) h (refusal t w (d - 1) p x f r f′)))
+      sym (at-items n e′ ∙ ap walkOf (gone-stop _ n (at + listLen) k p g (r .number) (r .place) h (refusal t w (d - 1) p x f r f′)))

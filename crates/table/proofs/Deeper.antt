@@ -5,59 +5,62 @@ use mathlib.Core.List.{List}
 use Prim.Native.Nat.{ℕ, zero, suc, _+_, _-_, _≤_}
 use native.Mathlib.Omega.{arith}
 use Rattle.refusals.specs.Numbers.{depthLimit, tooDeep}
+use Rattle.refusals.specs.Result.{Result, ok, refused}
+use Rattle.records.specs.Records.{headLen, payload}
+use Rattle.table.specs.Kinds.{listLen}
 use Rattle.table.specs.Trees.{Tree, Trees, binding, list, more}
-use Rattle.table.specs.Records.{Record, Symbol, Integer, Binding, ListOf, Bad, recordAt, payload}
-use Rattle.table.specs.Decoding.{Found, found, refused, andThen, itemsAt, Step, stepOf, stepAt, ofStep, treeAt}
+use Rattle.table.specs.Records.{Record, Symbol, Integer, Binding, ListOf, Bad, recordAt}
+use Rattle.table.specs.Decoding.{Found, found, andThen, itemsAt, Step, stepOf, stepAt, ofStep, treeAt}
 use Rattle.table.specs.declared.Step.the-variants as step
-use Rattle.table.specs.Walking.{pastOf}
+use Rattle.table.specs.Past.{pastOf}
 
 -- g finds all that f finds
-abbrev More : (ℕ → Found Tree) → (ℕ → Found Tree) → Type 0
-More f g = (p : ℕ) (x : Tree) (q : ℕ) → f p ≡ found x q → g p ≡ found x q
+abbrev More : (ℕ → Result (Found Tree)) → (ℕ → Result (Found Tree)) → Type 0
+More f g = (p : ℕ) (x : Tree) (q : ℕ) → f p ≡ ok (found x q) → g p ≡ ok (found x q)
 
-module _ (f g : ℕ → Found Tree) (h : More f g) where
-  items-again : (n p : ℕ) (xs : Trees) (q : ℕ) → itemsAt f n p ≡ found xs q → itemsAt g n p ≡ found xs q
+module _ (f g : ℕ → Result (Found Tree)) (h : More f g) where
+  items-again : (n p : ℕ) (xs : Trees) (q : ℕ) → itemsAt f n p ≡ ok (found xs q) → itemsAt g n p ≡ ok (found xs q)
   unfolding itemsAt
   items-again zero p xs q e = e
   items-again (suc n) p xs q e = first (f p) refl e (items-again n)
     where
-      rest : (x : Tree) (r : ℕ) (y : Found Trees) → itemsAt f n r ≡ y → g p ≡ found x r → andThen y (λ xs r. found (more x xs) r) ≡ found xs q
-          → ((p : ℕ) (xs : Trees) (q : ℕ) → itemsAt f n p ≡ found xs q → itemsAt g n p ≡ found xs q)
-          → andThen (g p) (λ x q. andThen (itemsAt g n q) (λ xs r. found (more x xs) r)) ≡ found xs q
-      rest x r (found ys s) u v k ih = rw (v, ih r ys s u) k
+      rest : (x : Tree) (r : ℕ) (y : Result (Found Trees)) → itemsAt f n r ≡ y → g p ≡ ok (found x r) → andThen y (λ xs r. ok (found (more x xs) r)) ≡ ok (found xs q)
+          → ((p : ℕ) (xs : Trees) (q : ℕ) → itemsAt f n p ≡ ok (found xs q) → itemsAt g n p ≡ ok (found xs q))
+          → andThen (g p) (λ x q. andThen (itemsAt g n q) (λ xs r. ok (found (more x xs) r))) ≡ ok (found xs q)
+      rest x r (ok (found ys s)) u v k ih = rw (v, ih r ys s u) k
       rest x r (refused m a) u v k ih = let z : _≡_ {A = ℕ} 0 1 = cc in absurd (omega arith)
 
-      first : (y : Found Tree) → f p ≡ y → andThen y (λ x q. andThen (itemsAt f n q) (λ xs r. found (more x xs) r)) ≡ found xs q
-          → ((p : ℕ) (xs : Trees) (q : ℕ) → itemsAt f n p ≡ found xs q → itemsAt g n p ≡ found xs q)
-          → andThen (g p) (λ x q. andThen (itemsAt g n q) (λ xs r. found (more x xs) r)) ≡ found xs q
-      first (found x r) u k ih = rest x r (itemsAt f n r) refl (h p x r u) k ih
+      first : (y : Result (Found Tree)) → f p ≡ y → andThen y (λ x q. andThen (itemsAt f n q) (λ xs r. ok (found (more x xs) r))) ≡ ok (found xs q)
+          → ((p : ℕ) (xs : Trees) (q : ℕ) → itemsAt f n p ≡ ok (found xs q) → itemsAt g n p ≡ ok (found xs q))
+          → andThen (g p) (λ x q. andThen (itemsAt g n q) (λ xs r. ok (found (more x xs) r))) ≡ ok (found xs q)
+      first (ok (found x r)) u k ih = rest x r (itemsAt f n r) refl (h p x r u) k ih
       first (refused m a) u k ih = let z : _≡_ {A = ℕ} 0 1 = cc in absurd (omega arith)
 
-  step-again : (t : List ℕ) (at : ℕ) (s : Step) (x : Tree) (q : ℕ) → ofStep t at f s ≡ found x q → ofStep t at g s ≡ found x q
+  step-again : (t : List ℕ) (at : ℕ) (s : Step) (x : Tree) (q : ℕ) → ofStep t at f s ≡ ok (found x q) → ofStep t at g s ≡ ok (found x q)
   step-again t at (step.Fault n) x q e = e
   step-again t at (step.Symbol len) x q e = e
   step-again t at step.Integer x q e = e
   step-again t at (step.Binding len) x q e = by (f (at + len)) refl e
     where
-      by : (y : Found Tree) → f (at + len) ≡ y → andThen y (λ z r. found (binding (payload t at len) z) r) ≡ found x q
-          → andThen (g (at + len)) (λ z r. found (binding (payload t at len) z) r) ≡ found x q
-      by (found z r) u k = rw (h (at + len) z r u) k
+      by : (y : Result (Found Tree)) → f (at + len) ≡ y → andThen y (λ z r. ok (found (binding (payload t at len) z) r)) ≡ ok (found x q)
+          → andThen (g (at + len)) (λ z r. ok (found (binding (payload t at len) z) r)) ≡ ok (found x q)
+      by (ok (found z r)) u k = rw (h (at + len) z r u) k
       by (refused m a) u k = let z : _≡_ {A = ℕ} 0 1 = cc in absurd (omega arith)
-  step-again t at (step.List n) x q e = by (itemsAt f n (at + 10)) refl e
+  step-again t at (step.List n) x q e = by (itemsAt f n (at + listLen)) refl e
     where
-      by : (y : Found Trees) → itemsAt f n (at + 10) ≡ y → andThen y (λ xs r. found (list xs) r) ≡ found x q
-          → andThen (itemsAt g n (at + 10)) (λ xs r. found (list xs) r) ≡ found x q
-      by (found xs r) u k = rw (items-again n (at + 10) xs r u) k
+      by : (y : Result (Found Trees)) → itemsAt f n (at + listLen) ≡ y → andThen y (λ xs r. ok (found (list xs) r)) ≡ ok (found x q)
+          → andThen (itemsAt g n (at + listLen)) (λ xs r. ok (found (list xs) r)) ≡ ok (found x q)
+      by (ok (found xs r)) u k = rw (items-again n (at + listLen) xs r u) k
       by (refused m a) u k = let z : _≡_ {A = ℕ} 0 1 = cc in absurd (omega arith)
 
 -- a record that has no fault where nothing more may be open has none where more may be
-opened : (t : List ℕ) (w : Bool) (at : ℕ) (f : ℕ → Found Tree) (x : Tree) (q : ℕ) → ofStep t at f (stepAt t w at false) ≡ found x q
+opened : (t : List ℕ) (w : Bool) (at : ℕ) (f : ℕ → Result (Found Tree)) (x : Tree) (q : ℕ) → ofStep t at f (stepAt t w at false) ≡ ok (found x q)
     → stepAt t w at true ≡ stepAt t w at false
 unfolding stepAt
 opened t w at f x q e = by (recordAt t at) e
   where
-    by : (y : Record) → ofStep t at f (stepOf t w at false y) ≡ found x q → stepOf t w at true y ≡ stepOf t w at false y
-    by Bad k = refl
+    by : (y : Record) → ofStep t at f (stepOf t w at false y) ≡ ok (found x q) → stepOf t w at true y ≡ stepOf t w at false y
+    by (Bad n) k = refl
     by (Symbol len) k = refl
     by Integer k = refl
     by (Binding len) k = let z : _≡_ {A = ℕ} 0 1 = cc in absurd (omega arith)
@@ -68,17 +71,17 @@ unfolding treeAt
 one-deeper t w zero at x q e =
     rw (opened t w at (refused tooDeep) x q e) (step-again (refused tooDeep) (treeAt t w 0) (λ p y r u. absurd (none u)) t at (stepAt t w at false) x q e)
   where
-    none : {m a r : ℕ} {y : Tree} → _≡_ {A = Found Tree} (refused m a) (found y r) → ⊥
+    none : {m a r : ℕ} {y : Tree} → _≡_ {A = Result (Found Tree)} (refused m a) (ok (found y r)) → ⊥
     none u = let z : _≡_ {A = ℕ} 0 1 = cc in omega arith
 one-deeper t w (suc d) at x q e = step-again (treeAt t w d) (treeAt t w (suc d)) (one-deeper t w d) t at (stepAt t w at true) x q e
 
-pub tree-deeper : (t : List ℕ) (w : Bool) (d k at q : ℕ) (x : Tree) → treeAt t w d at ≡ found x q → treeAt t w (k + d) at ≡ found x q
+pub tree-deeper : (t : List ℕ) (w : Bool) (d k at q : ℕ) (x : Tree) → treeAt t w d at ≡ ok (found x q) → treeAt t w (k + d) at ≡ ok (found x q)
 tree-deeper t w d zero at q x e = let z : 0 + d ≡ d = omega arith in rw z e
 tree-deeper t w d (suc k) at q x e = let z : suc k + d ≡ suc (k + d) = omega arith in rw z (one-deeper t w (k + d) at x q (tree-deeper t w d k at q x e))
 
 -- in a table without faults, `past` is the place past the tree at any place where one stands
-pub past-found : (t : List ℕ) (d at q : ℕ) (x : Tree) → d ≤ depthLimit → treeAt t false d at ≡ found x q → pastOf at (treeAt t false depthLimit at) ≡ q
+pub past-found : (t : List ℕ) (d at q : ℕ) (x : Tree) → d ≤ depthLimit → treeAt t false d at ≡ ok (found x q) → pastOf at (treeAt t false depthLimit at) ≡ q
 past-found t d at q x h e =
     let z : depthLimit - d + d ≡ depthLimit = omega arith in
-    let k : treeAt t false depthLimit at ≡ found x q = subst (λ (j : ℕ). treeAt t false j at ≡ found x q) z (tree-deeper t false d (depthLimit - d) at q x e) in
+    let k : treeAt t false depthLimit at ≡ ok (found x q) = subst (λ (j : ℕ). treeAt t false j at ≡ ok (found x q)) z (tree-deeper t false d (depthLimit - d) at q x e) in
     ap (pastOf at) k

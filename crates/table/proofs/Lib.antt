@@ -1,6 +1,5 @@
 pub mod Integers
 pub mod Reading
-pub mod Parsing
 pub mod Names
 pub mod Heads
 pub mod Encoded
@@ -9,5 +8,5 @@ pub mod Steps
 pub mod Checking
 pub mod Answers
 pub mod Whole
-pub mod Cases
 pub mod Deeper
+pub mod Cases

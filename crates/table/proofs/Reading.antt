@@ -10,95 +10,108 @@ use borrow.Author.Tests.{lt-ltb, ltb-true, ltb-false, eqb-true}
 use Rattle.refusals.specs.Numbers.{tooDeep}
 use Rattle.lists.proofs.Choice.{pick}
 use Rattle.wide.specs.Bytes.{numberAt}
+use Rattle.refusals.specs.Result.{Result, ok, refused}
+use Rattle.records.specs.declared.Head.{Head}
+use Rattle.records.specs.declared.Head.the-variants.{Cut, Is}
+use Rattle.records.specs.Records.{headLen, lenAt, kindAt, payload, headAt}
+use Rattle.records.proofs.Heads.{HeadIn, head-in}
+use Rattle.table.specs.Kinds.{symbolKind, integerKind, bindingKind, listKind, integerLen, listLen}
 use Rattle.table.specs.Trees.{Tree, Trees, binding, list, more, isSymbol}
-use Rattle.table.specs.Records.{Record, Symbol, Integer, Binding, ListOf, Bad, recordOf, recordAt, payload}
-use Rattle.table.specs.Decoding.{Found, found, refused, andThen, itemsAt, isLowest, Step, stepOf, stepAt, ofStep, treeAt}
+use Rattle.table.specs.Records.{Record, Symbol, Integer, Binding, ListOf, Bad, kindOf, recordOf, recordAt}
+use Rattle.table.specs.Decoding.{Found, found, andThen, itemsAt, isLowest, Step, stepOf, stepAt, ofStep, treeAt}
 use Rattle.table.specs.declared.Step.the-variants as step
 
 -- what each record says of the bytes left, its length, its kind and its item count
 abbrev pub RecordIn : ℕ → ℕ → ℕ → ℕ → Record → Type 0
-RecordIn left len kind items (Symbol l) = (l ≡ len) × (kind ≡ 1) × (6 ≤ l) × (l ≤ left)
-RecordIn left len kind items Integer = (len ≡ 22) × (kind ≡ 2) × (22 ≤ left)
-RecordIn left len kind items (Binding l) = (l ≡ len) × (kind ≡ 3) × (6 ≤ l) × (l ≤ left)
-RecordIn left len kind items (ListOf n) = (n ≡ items) × (len ≡ 10) × (kind ≡ 4) × (10 ≤ left)
-RecordIn left len kind items Bad = Unit {0}
-
-record-of-in : (left len kind items : ℕ) → RecordIn left len kind items (recordOf left len kind items)
-record-of-in left len kind items =
-    let P : Record → Type 0 = RecordIn left len kind items in
-    pick P (ltb left 6) (λ _. tt) (λ _.
-    pick P (ltb left len) (λ _. tt) (λ e1.
-    pick P (ltb len 6) (λ _. tt) (λ e2.
-    pick P (eqb kind 1) (λ e. (refl, eqb-true kind 1 e, ltb-false len 6 e2, ltb-false left len e1)) (λ _.
-    pick P (eqb kind 2)
-    (λ e. pick P (eqb len 22) (λ f. (eqb-true len 22 f, eqb-true kind 2 e, omega (arith, ltb-false left len e1, eqb-true len 22 f))) (λ _. tt)) (λ _.
-    pick P (eqb kind 3) (λ e. (refl, eqb-true kind 3 e, ltb-false len 6 e2, ltb-false left len e1)) (λ _.
-    pick P (eqb kind 4)
-    (λ e. pick P (eqb len 10) (λ f. (refl, eqb-true len 10 f, eqb-true kind 4 e, omega (arith, ltb-false left len e1, eqb-true len 10 f))) (λ _. tt))
-    (λ _. tt)))))))
+RecordIn left len kind items (Symbol l) = (l ≡ len) × (kind ≡ symbolKind) × (headLen ≤ l) × (l ≤ left)
+RecordIn left len kind items Integer = (len ≡ integerLen) × (kind ≡ integerKind) × (integerLen ≤ left)
+RecordIn left len kind items (Binding l) = (l ≡ len) × (kind ≡ bindingKind) × (headLen ≤ l) × (l ≤ left)
+RecordIn left len kind items (ListOf n) = (n ≡ items) × (len ≡ listLen) × (kind ≡ listKind) × (listLen ≤ left)
+RecordIn left len kind items (Bad n) = 0 < n
 
 abbrev pub RecordAt : List ℕ → ℕ → Record → Type 0
-RecordAt t at = RecordIn (length t - at) (numberAt 4 t at) (numberAt 2 t (at + 4)) (numberAt 4 t (at + 6))
+RecordAt t at = RecordIn (length t - at) (lenAt t at) (kindAt t at) (numberAt 4 t (at + headLen))
+
+kind-in : (left len items : ℕ) → headLen ≤ len → len ≤ left → (kind : ℕ) → RecordIn left len kind items (kindOf kind len items)
+kind-in left len items few most kind =
+    let P : Record → Type 0 = RecordIn left len kind items in
+    pick P (eqb kind symbolKind) (λ e. (refl, eqb-true kind symbolKind e, few, most)) (λ _.
+    pick P (eqb kind integerKind)
+    (λ e. pick P (eqb len integerLen) (λ f. (eqb-true len integerLen f, eqb-true kind integerKind e, omega (arith, eqb-true len integerLen f))) (λ _. lit< tt)) (λ _.
+    pick P (eqb kind bindingKind) (λ e. (refl, eqb-true kind bindingKind e, few, most)) (λ _.
+    pick P (eqb kind listKind)
+    (λ e. pick P (eqb len listLen) (λ f. (refl, eqb-true len listLen f, eqb-true kind listKind e, omega (arith, eqb-true len listLen f))) (λ _. lit< tt))
+    (λ _. lit< tt))))
 
 pub record-in : (t : List ℕ) (at : ℕ) → RecordAt t at (recordAt t at)
 unfolding recordAt
-record-in t at = record-of-in (length t - at) (numberAt 4 t at) (numberAt 2 t (at + 4)) (numberAt 4 t (at + 6))
+record-in t at = by (headAt t at) (head-in t at)
+  where
+    by : (x : Head) → HeadIn t at x → RecordAt t at (recordOf x (numberAt 4 t (at + headLen)))
+    by Cut h = lit< tt
+    by (Is kind len) h =
+        rw (h .0, h .1) (kind-in (length t - at) len (numberAt 4 t (at + headLen)) (h .2) (h .3) kind)
 
--- the same of a record x that was read as y
+-- the record r by a head x that was read as y
+pub record-is : (t : List ℕ) (at : ℕ) (x y : Head) (r : Record) → x ≡ headAt t at → x ≡ y → r ≡ recordOf y (numberAt 4 t (at + headLen)) → r ≡ recordAt t at
+unfolding recordAt
+record-is t at x y r e e′ f = f ∙ ap (λ (z : Head). recordOf z (numberAt 4 t (at + headLen))) (sym e′ ∙ e)
+
+-- what is said of a record x that was read as y
 pub read-in : (t : List ℕ) (at : ℕ) (x y : Record) → x ≡ recordAt t at → x ≡ y → RecordAt t at y
 read-in t at x y e e′ = subst (RecordAt t at) (sym e ∙ e′) (record-in t at)
 
-pub symbol-in : (t : List ℕ) (at len : ℕ) (x : Record) → x ≡ recordAt t at → x ≡ Symbol len → (6 ≤ len) × (len ≤ length t - at)
+pub symbol-in : (t : List ℕ) (at len : ℕ) (x : Record) → x ≡ recordAt t at → x ≡ Symbol len → (headLen ≤ len) × (len ≤ length t - at)
 symbol-in t at len x e e′ = let h = read-in t at x (Symbol len) e e′ in (h .2, h .3)
 
-pub binding-in : (t : List ℕ) (at len : ℕ) (x : Record) → x ≡ recordAt t at → x ≡ Binding len → (6 ≤ len) × (len ≤ length t - at)
+pub binding-in : (t : List ℕ) (at len : ℕ) (x : Record) → x ≡ recordAt t at → x ≡ Binding len → (headLen ≤ len) × (len ≤ length t - at)
 binding-in t at len x e e′ = let h = read-in t at x (Binding len) e e′ in (h .2, h .3)
 
-pub integer-in : (t : List ℕ) (at : ℕ) (x : Record) → x ≡ recordAt t at → x ≡ Integer → 22 ≤ length t - at
+pub integer-in : (t : List ℕ) (at : ℕ) (x : Record) → x ≡ recordAt t at → x ≡ Integer → integerLen ≤ length t - at
 integer-in t at x e e′ = (read-in t at x Integer e e′) .2
 
-pub list-in : (t : List ℕ) (at n : ℕ) (x : Record) → x ≡ recordAt t at → x ≡ ListOf n → 10 ≤ length t - at
+pub list-in : (t : List ℕ) (at n : ℕ) (x : Record) → x ≡ recordAt t at → x ≡ ListOf n → listLen ≤ length t - at
 list-in t at n x e e′ = (read-in t at x (ListOf n) e e′) .3
 
 -- what is found lies past its place and within the table
-abbrev pub Ends : {A : Type 0} → ℕ → ℕ → Found A → Type 0
-Ends p lim (found x q) = (p ≤ q) × (q ≤ lim)
+abbrev pub Ends : {A : Type 0} → ℕ → ℕ → Result (Found A) → Type 0
+Ends p lim (ok (found x q)) = (p ≤ q) × (q ≤ lim)
 Ends p lim (refused n a) = Unit {0}
 
-abbrev pub Ending : ℕ → (ℕ → Found Tree) → Type 0
+abbrev pub Ending : ℕ → (ℕ → Result (Found Tree)) → Type 0
 Ending lim f = (p : ℕ) → p ≤ lim → Ends (p + 1) lim (f p)
 
-pub items-end : (lim : ℕ) (f : ℕ → Found Tree) → Ending lim f → (n p : ℕ) → p ≤ lim → Ends p lim (itemsAt f n p)
+pub items-end : (lim : ℕ) (f : ℕ → Result (Found Tree)) → Ending lim f → (n p : ℕ) → p ≤ lim → Ends p lim (itemsAt f n p)
 unfolding itemsAt
 items-end lim f hf zero p hp = (omega arith, hp)
 items-end lim f hf (suc n) p hp = first (f p) (hf p hp) (items-end lim f hf n)
   where
-    last : (x : Tree) (q : ℕ) → p ≤ q → (y : Found Trees) → Ends q lim y → Ends p lim (andThen y (λ xs r. found (more x xs) r))
-    last x q h (found xs r) hy = (omega arith, hy .1)
+    last : (x : Tree) (q : ℕ) → p ≤ q → (y : Result (Found Trees)) → Ends q lim y → Ends p lim (andThen y (λ xs r. ok (found (more x xs) r)))
+    last x q h (ok (found xs r)) hy = (omega arith, hy .1)
     last x q h (refused k a) hy = tt
 
-    first : (y : Found Tree) → Ends (p + 1) lim y → ((q : ℕ) → q ≤ lim → Ends q lim (itemsAt f n q))
-        → Ends p lim (andThen y (λ x q. andThen (itemsAt f n q) (λ xs r. found (more x xs) r)))
-    first (found x q) hy ih = last x q (omega arith) (itemsAt f n q) (ih q (hy .1))
+    first : (y : Result (Found Tree)) → Ends (p + 1) lim y → ((q : ℕ) → q ≤ lim → Ends q lim (itemsAt f n q))
+        → Ends p lim (andThen y (λ x q. andThen (itemsAt f n q) (λ xs r. ok (found (more x xs) r))))
+    first (ok (found x q)) hy ih = last x q (omega arith) (itemsAt f n q) (ih q (hy .1))
     first (refused k a) hy ih = tt
 
-end-map : {A B : Type 0} (g : A → B) (p p′ lim : ℕ) → p ≤ p′ → (y : Found A) → Ends p′ lim y → Ends p lim (andThen y (λ x q. found (g x) q))
-end-map g p p′ lim h (found x q) hy = (omega arith, hy .1)
+end-map : {A B : Type 0} (g : A → B) (p p′ lim : ℕ) → p ≤ p′ → (y : Result (Found A)) → Ends p′ lim y → Ends p lim (andThen y (λ x q. ok (found (g x) q)))
+end-map g p p′ lim h (ok (found x q)) hy = (omega arith, hy .1)
 end-map g p p′ lim h (refused n a) hy = tt
 
 -- what a judged record says of the table's bytes, of the depth, and of what it names or holds
 abbrev pub StepIn : List ℕ → Bool → ℕ → ℕ → Step → Type 0
 StepIn t w d at (step.Fault n) = 0 < n
 StepIn t w d at (step.Symbol len) =
-    (6 ≤ len) × (len ≤ length t - at) × (isSymbol (payload t at len) ≡ true) × (len ≡ numberAt 4 t at) × (numberAt 2 t (at + 4) ≡ 1)
-StepIn t w d at step.Integer = (22 ≤ length t - at) × ((w && isLowest t at) ≡ false) × (numberAt 4 t at ≡ 22) × (numberAt 2 t (at + 4) ≡ 2)
+    (headLen ≤ len) × (len ≤ length t - at) × (isSymbol (payload t at len) ≡ true) × (len ≡ lenAt t at) × (kindAt t at ≡ symbolKind)
+StepIn t w d at step.Integer = (integerLen ≤ length t - at) × ((w && isLowest t at) ≡ false) × (lenAt t at ≡ integerLen) × (kindAt t at ≡ integerKind)
 StepIn t w d at (step.Binding len) =
-    (6 ≤ len) × (len ≤ length t - at) × (0 < d) × (isSymbol (payload t at len) ≡ true) × (len ≡ numberAt 4 t at) × (numberAt 2 t (at + 4) ≡ 3)
+    (headLen ≤ len) × (len ≤ length t - at) × (0 < d) × (isSymbol (payload t at len) ≡ true) × (len ≡ lenAt t at) × (kindAt t at ≡ bindingKind)
 StepIn t w d at (step.List n) =
-    (10 ≤ length t - at) × (0 < d) × (n ≡ numberAt 4 t (at + 6)) × (numberAt 4 t at ≡ 10) × (numberAt 2 t (at + 4) ≡ 4)
+    (listLen ≤ length t - at) × (0 < d) × (n ≡ numberAt 4 t (at + headLen)) × (lenAt t at ≡ listLen) × (kindAt t at ≡ listKind)
 
 of-in : (t : List ℕ) (w : Bool) (d at : ℕ) (x : Record) → RecordAt t at x → StepIn t w d at (stepOf t w at (ltb 0 d) x)
-of-in t w d at Bad h = lit< tt
+of-in t w d at (Bad n) h = h
 of-in t w d at (Symbol len) h = pick (StepIn t w d at) (isSymbol (payload t at len)) (λ e. (h .2, h .3, e, h .0, h .1)) (λ _. lit< tt)
 of-in t w d at Integer h = pick (StepIn t w d at) (w && isLowest t at) (λ _. lit< tt) (λ e. (h .2, e, h .0, h .1))
 of-in t w d at (Binding len) h =
@@ -111,7 +124,7 @@ unfolding stepAt
 judged-in t w d at = of-in t w d at (recordAt t at) (record-in t at)
 
 -- where nothing deeper is allowed, nothing deeper is asked
-none-deeper : (t : List ℕ) (w : Bool) (at : ℕ) (f g : ℕ → Found Tree) (s : Step) → StepIn t w 0 at s → ofStep t at f s ≡ ofStep t at g s
+none-deeper : (t : List ℕ) (w : Bool) (at : ℕ) (f g : ℕ → Result (Found Tree)) (s : Step) → StepIn t w 0 at s → ofStep t at f s ≡ ofStep t at g s
 none-deeper t w at f g (step.Fault n) h = refl
 none-deeper t w at f g (step.Symbol len) h = refl
 none-deeper t w at f g step.Integer h = refl
@@ -132,7 +145,7 @@ unfolding stepAt
 tree-of t w d at x e = tree-step t w d at ∙ ap (λ (y : Record). ofStep t at (treeAt t w (d - 1)) (stepOf t w at (ltb 0 d) y)) (sym e)
 
 -- what holds of every judged record that the trees below it meet, holds of every tree
-pub by-steps : (t : List ℕ) (w : Bool) (P : ℕ → ℕ → Found Tree → Type 0)
+pub by-steps : (t : List ℕ) (w : Bool) (P : ℕ → ℕ → Result (Found Tree) → Type 0)
     → ((d at : ℕ) → (0 < d → (q : ℕ) → P (d - 1) q (treeAt t w (d - 1) q)) → (s : Step) → StepIn t w d at s → P d at (ofStep t at (treeAt t w (d - 1)) s))
     → (d at : ℕ) → P d at (treeAt t w d at)
 by-steps t w P f zero at = subst⁻¹ (P 0 at) (tree-step t w 0 at) (f 0 at (λ l. absurd (omega arith)) (stepAt t w at (ltb 0 0)) (judged-in t w 0 at))
@@ -153,5 +166,5 @@ tree-end t w = by-steps t w (λ d at y. at ≤ length t → Ends (at + 1) (lengt
         end-map (binding (payload t at len)) (at + 1) (at + len + 1) (length t) (omega arith) (treeAt t w (d - 1) (at + len))
         (hf (hs .2) (at + len) (omega (arith, hs .1)))
     by d at hf (step.List n) hs h =
-        end-map list (at + 1) (at + 10) (length t) (omega arith) (itemsAt (treeAt t w (d - 1)) n (at + 10))
-        (items-end (length t) (treeAt t w (d - 1)) (hf (hs .1)) n (at + 10) (omega (arith, hs .0)))
+        end-map list (at + 1) (at + listLen) (length t) (omega arith) (itemsAt (treeAt t w (d - 1)) n (at + listLen))
+        (items-end (length t) (treeAt t w (d - 1)) (hf (hs .1)) n (at + listLen) (omega (arith, hs .0)))

@@ -9,10 +9,13 @@ use lib.ListN.{length}
 use lib.Dec.{ltb}
 use borrow.Author.Tests.{lt-ltb, le-ltb}
 use Rattle.refusals.specs.Numbers.{tableLimit, depthLimit, tooLong}
+use Rattle.refusals.specs.Result.{Result, ok, refused}
+use Rattle.records.specs.Records.{headLen, payload}
+use Rattle.table.specs.Kinds.{listLen}
 use Rattle.table.specs.Trees.{Tree, Trees, symbol, none, more, count, isSymbol}
-use Rattle.table.specs.Records.{Record, Symbol, Integer, Binding, ListOf, Bad, recordAt, payload}
-use Rattle.table.specs.Decoding.{Found, found, refused, andThen, itemsAt, Step, stepOf, stepAt, ofStep, treeAt, treesAt, tableOf}
-use Rattle.table.specs.Walking.{pastName, pastSymbol}
+use Rattle.table.specs.Records.{Record, Symbol, Integer, Binding, ListOf, Bad, recordAt}
+use Rattle.table.specs.Decoding.{Found, found, andThen, itemsAt, Step, stepOf, stepAt, ofStep, treeAt, treesAt, tableOf}
+use Rattle.table.specs.Past.{pastName, pastSymbol}
 use Rattle.table.proofs.Reading.{symbol-in, Ends, StepIn, judged-in, tree-step, tree-of, tree-end}
 
 -- ---- a record that was judged as r
@@ -41,12 +44,12 @@ symbol-is t at x y r e e′ f = f ∙ ap (pastName t at) (sym e′ ∙ e)
 
 -- where `past_symbol` goes on, a good symbol stands
 pub symbol-there : (t : List ℕ) (w : Bool) (d at q : ℕ) → q ≡ pastSymbol t at → at < q
-    → (6 ≤ q - at) × (q - at ≤ length t - at) × (treeAt t w d at ≡ found (symbol (payload t at (q - at))) q)
+    → (headLen ≤ q - at) × (q - at ≤ length t - at) × (treeAt t w d at ≡ ok (found (symbol (payload t at (q - at))) q))
 unfolding pastSymbol
 symbol-there t w d at q e l = by (recordAt t at) refl e
   where
     named : (len : ℕ) (b : Bool) → recordAt t at ≡ Symbol len → isSymbol (payload t at len) ≡ b → q ≡ cond b (at + len) at
-        → (6 ≤ q - at) × (q - at ≤ length t - at) × (treeAt t w d at ≡ found (symbol (payload t at (q - at))) q)
+        → (headLen ≤ q - at) × (q - at ≤ length t - at) × (treeAt t w d at ≡ ok (found (symbol (payload t at (q - at))) q))
     named len false f g k = absurd (omega arith)
     named len true f g k =
         let h = symbol-in t at len (recordAt t at) refl f in
@@ -54,49 +57,49 @@ symbol-there t w d at q e l = by (recordAt t at) refl e
         rw (z, k) (h .0, h .1, tree-of t w d at (Symbol len) (sym f) ∙ rw g refl)
 
     by : (x : Record) → recordAt t at ≡ x → q ≡ pastName t at x
-        → (6 ≤ q - at) × (q - at ≤ length t - at) × (treeAt t w d at ≡ found (symbol (payload t at (q - at))) q)
+        → (headLen ≤ q - at) × (q - at ≤ length t - at) × (treeAt t w d at ≡ ok (found (symbol (payload t at (q - at))) q))
     by (Symbol len) f k = named len (isSymbol (payload t at len)) f refl k
     by Integer f k = absurd (omega arith)
     by (Binding len) f k = absurd (omega arith)
     by (ListOf n) f k = absurd (omega arith)
-    by Bad f k = absurd (omega arith)
+    by (Bad n) f k = absurd (omega arith)
 
 -- a tree that is found ends past its place and within the table
-pub found-in : (t : List ℕ) (w : Bool) (d p q : ℕ) (x : Tree) → p ≤ length t → treeAt t w d p ≡ found x q → (p < q) × (q ≤ length t)
+pub found-in : (t : List ℕ) (w : Bool) (d p q : ℕ) (x : Tree) → p ≤ length t → treeAt t w d p ≡ ok (found x q) → (p < q) × (q ≤ length t)
 found-in t w d p q x h e = let g = subst (Ends (p + 1) (length t)) e (tree-end t w d p h) in (omega arith, g .1)
 
 -- ---- the items of a list: k of the n from `at` are done, and p is past them
 
-pub record Gone (f : ℕ → Found Tree) (n at k p : ℕ) : Type 0 where
+pub record Gone (f : ℕ → Result (Found Tree)) (n at k p : ℕ) : Type 0 where
   -- the items done, before those that are left
   pub pre : Trees → Trees
-  pub whole : itemsAt f n at ≡ andThen (itemsAt f (n - k) p) (λ ys q. found (pre ys) q)
+  pub whole : itemsAt f n at ≡ andThen (itemsAt f (n - k) p) (λ ys q. ok (found (pre ys) q))
   pub counted : (ys : Trees) → count (pre ys) ≡ k + count ys
   pub few : k ≤ n
 
-pub all-of : (y : Found Trees) → y ≡ andThen y (λ ys q. found ys q)
-all-of (found xs q) = refl
+pub all-of : (y : Result (Found Trees)) → y ≡ andThen y (λ ys q. ok (found ys q))
+all-of (ok (found xs q)) = refl
 all-of (refused n a) = refl
 
-then-more : (x : Tree) (pre : Trees → Trees) (y : Found Trees)
-    → andThen (andThen y (λ xs r. found (more x xs) r)) (λ ys q. found (pre ys) q) ≡ andThen y (λ ys q. found (pre (more x ys)) q)
-then-more x pre (found xs q) = refl
+then-more : (x : Tree) (pre : Trees → Trees) (y : Result (Found Trees))
+    → andThen (andThen y (λ xs r. ok (found (more x xs) r))) (λ ys q. ok (found (pre ys) q)) ≡ andThen y (λ ys q. ok (found (pre (more x ys)) q))
+then-more x pre (ok (found xs q)) = refl
 then-more x pre (refused n a) = refl
 
-abbrev pub gone-begin : (f : ℕ → Found Tree) (n at : ℕ) → Gone f n at 0 at
+abbrev pub gone-begin : (f : ℕ → Result (Found Tree)) (n at : ℕ) → Gone f n at 0 at
 gone-begin f n at =
     let z : n - 0 ≡ n = omega arith in
     record { pre = λ ys. ys; whole = rw z (all-of (itemsAt f n at)); counted = λ ys. omega arith; few = omega arith }
 
-module _ (f : ℕ → Found Tree) (n at k p : ℕ) (g : Gone f n at k p) where
-  pub one-more : (q : ℕ) (x : Tree) → k < n → f p ≡ found x q
-      → itemsAt f n at ≡ andThen (itemsAt f (n - (k + 1)) q) (λ ys r. found (g .pre (more x ys)) r)
+module _ (f : ℕ → Result (Found Tree)) (n at k p : ℕ) (g : Gone f n at k p) where
+  pub one-more : (q : ℕ) (x : Tree) → k < n → f p ≡ ok (found x q)
+      → itemsAt f n at ≡ andThen (itemsAt f (n - (k + 1)) q) (λ ys r. ok (found (g .pre (more x ys)) r))
   unfolding itemsAt
   one-more q x lt e =
       let z : n - k ≡ suc (n - (k + 1)) = omega arith in
       g .whole ∙ rw (z, e) (then-more x (g .pre) (itemsAt f (n - (k + 1)) q))
 
-  abbrev pub gone-item : (q : ℕ) (x : Tree) → k < n → f p ≡ found x q → Gone f n at (k + 1) q
+  abbrev pub gone-item : (q : ℕ) (x : Tree) → k < n → f p ≡ ok (found x q) → Gone f n at (k + 1) q
   gone-item q x lt e = record {
     pre = λ ys. g .pre (more x ys);
     whole = one-more q x lt e;
@@ -108,7 +111,7 @@ module _ (f : ℕ → Found Tree) (n at k p : ℕ) (g : Gone f n at k p) where
   unfolding itemsAt
   gone-stop b a lt e = let z : n - k ≡ suc (n - (k + 1)) = omega arith in g .whole ∙ rw (z, e) refl
 
-  pub gone-end : n ≤ k → itemsAt f n at ≡ found (g .pre none) p
+  pub gone-end : n ≤ k → itemsAt f n at ≡ ok (found (g .pre none) p)
   unfolding itemsAt
   gone-end le = let z : n - k ≡ 0 = omega arith in g .whole ∙ rw z refl
 
@@ -119,7 +122,7 @@ pub record Read (t : List ℕ) (w : Bool) (p : ℕ) : Type 0 where
   pub enough : length t < k + p
   -- the trees done, before those that are left
   pub pre : Trees → Trees
-  pub whole : tableOf w t ≡ andThen (treesAt t w k p) (λ ys q. found (pre ys) q)
+  pub whole : tableOf w t ≡ andThen (treesAt t w k p) (λ ys q. ok (found (pre ys) q))
   pub within : p ≤ length t
   pub limit : length t ≤ tableLimit
 
@@ -127,7 +130,7 @@ pub too-long : (t : List ℕ) (w : Bool) → tableLimit < length t → tableOf w
 unfolding tableOf
 too-long t w h = rw (lt-ltb tableLimit (length t) h) refl
 
-pub read-whole : (t : List ℕ) (w : Bool) → length t ≤ tableLimit → tableOf w t ≡ andThen (treesAt t w (length t + 1) 0) (λ ys q. found ys q)
+pub read-whole : (t : List ℕ) (w : Bool) → length t ≤ tableLimit → tableOf w t ≡ andThen (treesAt t w (length t + 1) 0) (λ ys q. ok (found ys q))
 unfolding tableOf
 read-whole t w h = rw (le-ltb tableLimit (length t) h) (all-of (treesAt t w (length t + 1) 0))
 
@@ -141,11 +144,11 @@ module _ (t : List ℕ) (w : Bool) (p : ℕ) (g : Read t w p) where
     pub rest : Read t w q
     pub pre-is : (ys : Trees) → rest .pre ys ≡ g .pre (more x ys)
 
-  pub read-tree : (q : ℕ) (x : Tree) → p < length t → treeAt t w depthLimit p ≡ found x q → Onward x q
+  pub read-tree : (q : ℕ) (x : Tree) → p < length t → treeAt t w depthLimit p ≡ ok (found x q) → Onward x q
   unfolding treesAt
   read-tree q x lt e = by (g .k) (g .enough) (g .whole)
     where
-      by : (k : ℕ) → length t < k + p → tableOf w t ≡ andThen (treesAt t w k p) (λ ys q. found (g .pre ys) q) → Onward x q
+      by : (k : ℕ) → length t < k + p → tableOf w t ≡ andThen (treesAt t w k p) (λ ys q. ok (found (g .pre ys) q)) → Onward x q
       by zero h f = absurd (omega arith)
       by (suc k) h f =
           let i = found-in t w depthLimit p q x (g .within) e in
@@ -166,14 +169,14 @@ module _ (t : List ℕ) (w : Bool) (p : ℕ) (g : Read t w p) where
   unfolding treesAt
   read-stop b a lt e = by (g .k) (g .enough) (g .whole)
     where
-      by : (k : ℕ) → length t < k + p → tableOf w t ≡ andThen (treesAt t w k p) (λ ys q. found (g .pre ys) q) → tableOf w t ≡ refused b a
+      by : (k : ℕ) → length t < k + p → tableOf w t ≡ andThen (treesAt t w k p) (λ ys q. ok (found (g .pre ys) q)) → tableOf w t ≡ refused b a
       by zero h f = absurd (omega arith)
       by (suc k) h f = f ∙ rw (lt-ltb p (length t) lt, e) refl
 
-  pub read-end : length t ≤ p → tableOf w t ≡ found (g .pre none) p
+  pub read-end : length t ≤ p → tableOf w t ≡ ok (found (g .pre none) p)
   unfolding treesAt
   read-end le = by (g .k) (g .whole)
     where
-      by : (k : ℕ) → tableOf w t ≡ andThen (treesAt t w k p) (λ ys q. found (g .pre ys) q) → tableOf w t ≡ found (g .pre none) p
+      by : (k : ℕ) → tableOf w t ≡ andThen (treesAt t w k p) (λ ys q. ok (found (g .pre ys) q)) → tableOf w t ≡ ok (found (g .pre none) p)
       by zero f = f
       by (suc k) f = f ∙ rw (le-ltb p (length t) le) refl

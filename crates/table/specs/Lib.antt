@@ -1,5 +1,7 @@
+pub mod Kinds
 pub mod Trees
 pub mod Records
 pub mod Decoding
+pub mod Past
 pub mod Printable
-pub mod Walking
+pub mod PrivateWalking

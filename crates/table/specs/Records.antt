@@ -1,29 +1,30 @@
 -- The record at a place of a table (document 01, 'Trees and their table', 'Order').
-use Prim.Native.Nat.{ℕ, _+_, _-_}
+use Prim.Native.Nat.{ℕ, _+_}
+use mathlib.Core.Bool.{cond}
 use mathlib.Core.List.{List}
-use mathlib.Core.Bool.{Bool, true, false, cond}
-use lib.ListN.{length, take, drop}
-use lib.Dec.{ltb, eqb}
+use lib.Dec.{eqb}
+use Rattle.refusals.specs.Numbers.{badRecord}
 use Rattle.wide.specs.Bytes.{numberAt}
+use Rattle.records.specs.declared.Head.{Head}
+use Rattle.records.specs.declared.Head.the-variants.{Cut, Is}
+use Rattle.records.specs.Records.{headLen, headAt}
+use Rattle.table.specs.Kinds.{symbolKind, integerKind, bindingKind, listKind, integerLen, listLen}
 pub use Rattle.table.specs.declared.Record.{Record}
 pub use Rattle.table.specs.declared.Record.the-variants.{Symbol, Integer, Binding, List as ListOf, Bad}
 
--- by the bytes left, the record's length, its kind and its item count: bad if the table's end cuts it, its length is below 6, its kind is
--- unknown, or its length is wrong for its kind
-abbrev pub recordOf : ℕ → ℕ → ℕ → ℕ → Record
-recordOf left len kind items =
-    cond (ltb left 6) Bad
-    (cond (ltb left len) Bad
-    (cond (ltb len 6) Bad
-    (cond (eqb kind 1) (Symbol len)
-    (cond (eqb kind 2) (cond (eqb len 22) Integer Bad)
-    (cond (eqb kind 3) (Binding len)
-    (cond (eqb kind 4) (cond (eqb len 10) (ListOf items) Bad)
-    Bad))))))
+-- by its kind, its length and its item count: bad if its kind is unknown, or its length is wrong for its kind
+abbrev pub kindOf : ℕ → ℕ → ℕ → Record
+kindOf kind len items =
+    cond (eqb kind symbolKind) (Symbol len)
+    (cond (eqb kind integerKind) (cond (eqb len integerLen) Integer (Bad badRecord))
+    (cond (eqb kind bindingKind) (Binding len)
+    (cond (eqb kind listKind) (cond (eqb len listLen) (ListOf items) (Bad badRecord))
+    (Bad badRecord))))
+
+-- by its head: bad if the table's end cuts it, or its length is below a head's
+abbrev pub recordOf : Head → ℕ → Record
+recordOf Cut items = Bad badRecord
+recordOf (Is kind len) items = kindOf kind len items
 
 unfoldable pub recordAt : List ℕ → ℕ → Record
-recordAt t at = recordOf (length t - at) (numberAt 4 t at) (numberAt 2 t (at + 4)) (numberAt 4 t (at + 6))
-
--- what stands behind the length and the kind of a record of `len` bytes
-abbrev pub payload : List ℕ → ℕ → ℕ → List ℕ
-payload t at len = take (len - 6) (drop (at + 6) t)
+recordAt t at = recordOf (headAt t at) (numberAt 4 t (at + headLen))

@@ -7,7 +7,10 @@ use lib.IntN.{ℤ, pos, negsuc}
 use lib.ListN.{length}
 use Rattle.classes.specs.Classes.{classOf, symbolFirst, symbolOther}
 use Rattle.wide.specs.Bytes.{le, wideBytes}
-use Rattle.lexer.specs.Said.{Said, says, open-paren, close-paren, at-sign, name, number}
+use Rattle.records.specs.Records.{headLen, record-of}
+use Rattle.table.specs.Kinds.{symbolKind, integerKind, bindingKind, listKind}
+use Rattle.lexer.specs.Streams.{Series, then}
+use Rattle.lexer.specs.BareTokens.{Bare, open-paren, close-paren, at-sign, name, number}
 
 -- a tree is a symbol, an integer, a symbol then `@` then a tree, or `(` trees `)`; a file is any number of trees
 mutual
@@ -27,15 +30,15 @@ count (more x xs) = suc (count xs)
 
 -- the tokens of a tree in order, before k
 unfoldable mutual
-  pub spoken : Tree → Said → Said
-  spoken (symbol n) k = says (name n) k
-  spoken (integer z) k = says (number z) k
-  spoken (binding n x) k = says (name n) (says at-sign (spoken x k))
-  spoken (list xs) k = says open-paren (spokens xs (says close-paren k))
+  pub treeTokens : Tree → Series Bare → Series Bare
+  treeTokens (symbol n) k = then (name n) k
+  treeTokens (integer z) k = then (number z) k
+  treeTokens (binding n x) k = then (name n) (then at-sign (treeTokens x k))
+  treeTokens (list xs) k = then open-paren (treesTokens xs (then close-paren k))
 
-  pub spokens : Trees → Said → Said
-  spokens none k = k
-  spokens (more x xs) k = spoken x (spokens xs k)
+  pub treesTokens : Trees → Series Bare → Series Bare
+  treesTokens none k = k
+  treesTokens (more x xs) k = treeTokens x (treesTokens xs k)
 
 -- bytes that a symbol runs on over
 unfoldable pub runsOn : List ℕ → Bool
@@ -55,26 +58,22 @@ InRange (negsuc n) = n < 2 ^ 127
 -- with d lists and bindings still to be opened: valid symbols, integers in range, nesting, and lengths and counts that fit their bytes
 unfoldable mutual
   pub Good : Tree → ℕ → Type 0
-  Good (symbol n) d = (isSymbol n ≡ true) × (length n + 6 < 2 ^ 32)
+  Good (symbol n) d = (isSymbol n ≡ true) × (length n + headLen < 2 ^ 32)
   Good (integer z) d = InRange z
-  Good (binding n x) d = (0 < d) × (isSymbol n ≡ true) × (length n + 6 < 2 ^ 32) × Good x (d - 1)
+  Good (binding n x) d = (0 < d) × (isSymbol n ≡ true) × (length n + headLen < 2 ^ 32) × Good x (d - 1)
   Good (list xs) d = (0 < d) × (count xs < 2 ^ 32) × Goods xs (d - 1)
 
   pub Goods : Trees → ℕ → Type 0
   Goods none d = Unit {0}
   Goods (more x xs) d = Good x d × Goods xs d
 
--- a record: the length of the whole record in 4 bytes, the kind in 2, the payload
-unfoldable pub record-of : ℕ → List ℕ → List ℕ
-record-of kind payload = le 4 (length payload + 6) ++ (le 2 kind ++ payload)
-
--- kind 1 symbol: its bytes; 2 integer: 16 bytes; 3 binding: the name, its tree follows; 4 list: the item count, items follow
+-- a symbol: its bytes; an integer: 16 bytes; a binding: the name, its tree follows; a list: the item count, items follow
 unfoldable mutual
   pub records : Tree → List ℕ
-  records (symbol n) = record-of 1 n
-  records (integer z) = record-of 2 (wideBytes z)
-  records (binding n x) = record-of 3 n ++ records x
-  records (list xs) = record-of 4 (le 4 (count xs)) ++ recordsOf xs
+  records (symbol n) = record-of symbolKind n
+  records (integer z) = record-of integerKind (wideBytes z)
+  records (binding n x) = record-of bindingKind n ++ records x
+  records (list xs) = record-of listKind (le 4 (count xs)) ++ recordsOf xs
 
   pub recordsOf : Trees → List ℕ
   recordsOf none = []

@@ -1,14 +1,32 @@
 // The node table: its records, and the check of a whole table.
+use records::HEAD;
+use records::Head;
 use refusals::Refusal;
 ghost use mathlib.Core.Path.{_≡_};
 ghost use Prim.Native.Nat.{_+_, _≤_};
 ghost use lib.ListN.{length};
 ghost use mathlib.Core.Bool.{false};
 ghost use Rattle.refusals.specs.Numbers.{depthLimit};
+ghost use Rattle.records.specs.Records.{headLen, payload};
+ghost use Rattle.table.specs.Kinds.{integerLen};
 ghost use Rattle.table.specs.Trees.{isSymbol};
-ghost use Rattle.table.specs.Records.{recordAt, payload};
+ghost use Rattle.table.specs.Records.{recordAt};
 ghost use Rattle.table.specs.Decoding.{isLowest, stepAt, treeAt, tableOf, judged, verdictOf};
-ghost use Rattle.table.specs.Walking.{pastSymbol, walkOf, pastOf};
+ghost use Rattle.table.specs.Past.{pastSymbol, pastOf};
+ghost use Rattle.table.specs.PrivateWalking.{walkOf};
+
+// The kinds of records, and the lengths of those that have a fixed one.
+pub const SYMBOL: usize = 1;
+
+pub const INTEGER: usize = 2;
+
+pub const BINDING: usize = 3;
+
+pub const LIST: usize = 4;
+
+pub const INTEGER_LEN: usize = HEAD + 16;
+
+pub const LIST_LEN: usize = HEAD + 4;
 
 pub enum Record {
     // A symbol, or a binding's name: the length of its record.
@@ -17,7 +35,8 @@ pub enum Record {
     Binding(usize),
     // A list: the number of its items.
     List(usize),
-    Bad,
+    // The number of its refusal.
+    Bad(u8),
 }
 
 pub enum Checked {
@@ -29,40 +48,30 @@ pub enum Checked {
 pub fn record_at(t: &[u8], at: usize) -> Record
     ensures { λ r. ⌜ r ≡ recordAt (now (t .entry)) at ⌝ }
 {
-    if t.len() < at {
-        return Record::Bad;
-    }
-    let left = t.len() - at;
-    if left < 6 {
-        return Record::Bad;
-    }
-    let len = wide::u32_at(t, at);
-    if left < len {
-        return Record::Bad;
-    }
-    if len < 6 {
-        return Record::Bad;
-    }
-    let kind = wide::u16_at(t, at + 4);
-    if kind == 1 {
-        return Record::Symbol(len);
-    }
-    if kind == 2 {
-        if len == 22 {
-            return Record::Integer;
+    match records::head_at(t, at) {
+        Head::Cut => Record::Bad(refusals::BAD_RECORD),
+        Head::Is(kind, len) => {
+            if kind == SYMBOL {
+                return Record::Symbol(len);
+            }
+            if kind == INTEGER {
+                if len == INTEGER_LEN {
+                    return Record::Integer;
+                }
+                return Record::Bad(refusals::BAD_RECORD);
+            }
+            if kind == BINDING {
+                return Record::Binding(len);
+            }
+            if kind == LIST {
+                if len == LIST_LEN {
+                    return Record::List(wide::u32_at(t, at + HEAD));
+                }
+                return Record::Bad(refusals::BAD_RECORD);
+            }
+            Record::Bad(refusals::BAD_RECORD)
         }
-        return Record::Bad;
     }
-    if kind == 3 {
-        return Record::Binding(len);
-    }
-    if kind == 4 {
-        if len == 10 {
-            return Record::List(wide::u32_at(t, at + 6));
-        }
-        return Record::Bad;
-    }
-    Record::Bad
 }
 
 // The bytes are what the lexer reads as one symbol.
@@ -88,20 +97,20 @@ pub fn is_symbol(s: &[u8]) -> bool
 
 // The payload of the record of `len` bytes at `at` is a symbol.
 fn is_name(t: &[u8], at: usize, len: usize) -> bool
-    requires { ⌜ (6 ≤ len) × (at + len ≤ length (now t)) ⌝ }
+    requires { ⌜ (headLen ≤ len) × (at + len ≤ length (now t)) ⌝ }
     ensures { λ r. ⌜ r ≡ isSymbol (payload (now (t .entry)) at len) ⌝ }
 {
-    let start = at + 6;
+    let start = at + HEAD;
     let end = at + len;
     is_symbol(&t[start..end])
 }
 
 // The integer's record at `at` holds -2^127.
 fn is_lowest(t: &[u8], at: usize) -> bool
-    requires { ⌜ at + 22 ≤ length (now t) ⌝ }
+    requires { ⌜ at + integerLen ≤ length (now t) ⌝ }
     ensures { λ r. ⌜ r ≡ isLowest (now (t .entry)) at ⌝ }
 {
-    let w = wide::wide_at(t, at + 6);
+    let w = wide::wide_at(t, at + HEAD);
     (w.hi == i64::MIN) & (w.lo == 0)
 }
 
@@ -121,7 +130,7 @@ pub fn step_at(t: &[u8], at: usize, deeper: bool, printing: bool) -> Step
 {
     let read = record_at(t, at);
     match read {
-        Record::Bad => Step::Fault(refusals::BAD_RECORD),
+        Record::Bad(number) => Step::Fault(number),
         Record::Symbol(len) => {
             if is_name(t, at, len) {
                 return Step::Symbol(len);
@@ -164,7 +173,7 @@ pub fn past_symbol(t: &[u8], at: usize) -> usize
             }
             at
         }
-        Record::Bad => at,
+        Record::Bad(_) => at,
         Record::Integer => at,
         Record::Binding(_) => at,
         Record::List(_) => at,
@@ -185,10 +194,10 @@ fn check_tree(t: &[u8], at: usize, depth: usize, printing: bool) -> Walked
     match step {
         Step::Fault(number) => Walked::Stopped(Refusal { number, place: at }),
         Step::Symbol(len) => Walked::Past(at + len),
-        Step::Integer => Walked::Past(at + 22),
+        Step::Integer => Walked::Past(at + INTEGER_LEN),
         Step::Binding(len) => check_tree(t, at + len, depth - 1, printing),
         Step::List(n) => {
-            let mut p = at + 10;
+            let mut p = at + LIST_LEN;
             let mut i = 0;
             while i < n {
                 let item = check_tree(t, p, depth - 1, printing);

@@ -6,6 +6,7 @@ use lib.ListN.{length}
 use borrow.Author.Needs.{needs}
 use borrow.Fn.Kinds.{In}
 use borrow.Fn.PlainCycle.{Measures, is, falls, and}
+use Rattle.table.specs.Kinds.{listLen}
 use Rattle.table.specs.Decoding.{treeAt}
 use Rattle.table.specs.declared.Step.the-variants as step
 use Rattle.table.proofs.Steps.{step-in, found-in, Gone, gone-begin, gone-item}
@@ -33,7 +34,7 @@ abbrev check-tree-calls : ℕ → check-tree-lts.Claims
 check-tree-calls t = (step-at-reads.Asked, step-at-reads.Learnt, check-tree-below t, check-tree.Post)
 
 abbrev check-tree-Inv-loop : check-tree-lts.InvT-loop
-check-tree-Inv-loop t at depth printing n p₀ i₀ p i = (p ≤ length t) × (0 < depth) × Gone (treeAt t printing (depth - 1)) n (at + 10) i p
+check-tree-Inv-loop t at depth printing n p₀ i₀ p i = (p ≤ length t) × (0 < depth) × Gone (treeAt t printing (depth - 1)) n (at + listLen) i p
 
 abbrev check-tree-μ-loop : check-tree-lts.MeasureT-loop
 check-tree-μ-loop t at depth printing n p₀ i₀ p i = n - i

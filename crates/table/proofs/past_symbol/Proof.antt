@@ -43,7 +43,7 @@ returns-2 : tie.Need-returns-2
 returns-2 c = symbol-is _ _ _ (Symbol _) _ (c .before .before .before .before .before .record-at .ensures) (c .before .before .before .node .given .1) (else-is _ _ _ _ (c .before .is-name .ensures) (c .if1 .left))
 
 returns-3 : tie.Need-returns-3
-returns-3 c = symbol-is _ _ _ Bad _ (c .before .before .record-at .ensures) (c .enum-told .given .1) refl
+returns-3 c = symbol-is _ _ _ (Bad _) _ (c .before .before .record-at .ensures) (c .enum-told .given .1) refl
 
 returns-4 : tie.Need-returns-4
 returns-4 c = symbol-is _ _ _ Integer _ (c .before .before .record-at .ensures) (c .enum-told2 .given .1) refl

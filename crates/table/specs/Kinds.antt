@@ -1,0 +1,23 @@
+-- The kinds of a table's records, and the lengths of those that have a fixed one (document 01, 'Trees and their table').
+use Prim.Native.Nat.{ℕ, _+_}
+use Rattle.records.specs.Records.{headLen}
+
+abbrev pub symbolKind : ℕ
+symbolKind = 1
+
+abbrev pub integerKind : ℕ
+integerKind = 2
+
+abbrev pub bindingKind : ℕ
+bindingKind = 3
+
+abbrev pub listKind : ℕ
+listKind = 4
+
+-- an integer's 16 bytes
+abbrev pub integerLen : ℕ
+integerLen = headLen + 16
+
+-- a list's item count, 4 bytes
+abbrev pub listLen : ℕ
+listLen = headLen + 4
