@@ -1,3 +1,0 @@
--- The laws behind the words.
-pub mod Answers
-pub mod Told

@@ -1,0 +1,32 @@
+-- `tulbazhik_feed::tulbazhik_close`: the words of the state and of the answer after the call.
+use mathlib.Core.Path.{_≡_, ap, _∙_}
+use denote.Ref.{now}
+use Rattle.feeder.specs.declared.State.{State}
+use Rattle.feeder.specs.Feeding.{closeOf, fedOf}
+use Rattle.words.specs.Words.{fedWords}
+use Rattle.tulbazhik_feed.specs.States.{unpackOf, stateWords}
+use borrow.Author.Needs.{needs}
+use Rattle.tulbazhik_feed.proofs.tulbazhik_close.Statement.{statement}
+use Rattle.tulbazhik_feed.proofs.tulbazhik_close.Tie as tie
+
+unpack-requires : tie.Need-unpack-requires
+unpack-requires c κs = search needs
+
+close-requires : tie.Need-close-requires
+close-requires c κs = search needs
+
+pack-requires : tie.Need-pack-requires
+pack-requires c κs = search needs
+
+of-out-requires : tie.Need-of-out-requires
+of-out-requires c κs = search needs
+
+returns : tie.Need-returns
+returns c =
+    let a = c .before .before .before .before .before .before .before .args in
+    let e : fedOf (c .before .before .before .before .close .result) ≡ closeOf (unpackOf (now (a .state))) = c .before .before .before .before .close .ensures ∙ ap (λ (s : State). closeOf s) (c .before .before .before .before .before .unpack .ensures) in
+    (c .before .pack .ensures ∙ ap stateWords e, c .of-out .ensures ∙ ap fedWords e)
+
+pub tulbazhik-close-spec : {M : Type 1} → statement M
+tulbazhik-close-spec =
+    tie.close (tie.spec unpack-requires close-requires pack-requires of-out-requires returns)

@@ -1,0 +1,2 @@
+-- The law behind the words.
+pub mod Injective

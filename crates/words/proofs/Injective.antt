@@ -1,0 +1,123 @@
+-- Two different answers have different words: each is read back from its words. Assumes nothing.
+use mathlib.Core.Path.{_≡_, refl, sym, ap, _∙_}
+use mathlib.Core.Bool.{cond}
+use mathlib.Core.List.{List}
+use Prim.Native.Nat.{ℕ, _+_, _*_, _/_, _%_, _^_}
+use native.Mathlib.Omega.{arith}
+use lib.Dec.{eqb}
+use lib.IntN.{ℤ}
+use lib.ListN.{getD}
+use mir.Syntax.{w128}
+use mir.Val.{SFits, ofZ, toZ}
+use mir.ValLaws.{toZ-ofZ}
+use Rattle.refusals.specs.Result as result
+use Rattle.refusals.specs.Result.{Result}
+use Rattle.lexer.specs.Tokens.{Kind, lparen, rparen, at-sign, symbol, int, Token, token, Answer, end, is, refused}
+use Rattle.feeder.specs.Feeding.{Reply, more, finish, ready, refuse, Fed}
+use Rattle.words.specs.Words.{kindWords, answerWords, replyWords, fedWords, lengthWords, endKind, lparenKind, rparenKind, atKind, symbolKind, refusedKind, moreKind}
+
+-- an integer of 128 bits, as every token has
+abbrev pub KindFits : Kind → Type 0
+KindFits lparen = Unit {0}
+KindFits rparen = Unit {0}
+KindFits at-sign = Unit {0}
+KindFits symbol = Unit {0}
+KindFits (int z) = SFits w128 z
+
+abbrev pub AnswerFits : Answer → Type 0
+AnswerFits end = Unit {0}
+AnswerFits (is t) = KindFits (t .kind)
+AnswerFits (refused n a) = Unit {0}
+
+abbrev pub ReplyFits : Reply → Type 0
+ReplyFits more = Unit {0}
+ReplyFits finish = Unit {0}
+ReplyFits (ready t) = KindFits (t .kind)
+ReplyFits (refuse n a) = Unit {0}
+
+abbrev kindIn : ℕ → ℕ → ℕ → Kind
+kindIn k h l =
+    cond (eqb k lparenKind) lparen
+    (cond (eqb k rparenKind) rparen
+    (cond (eqb k atKind) at-sign
+    (cond (eqb k symbolKind) symbol
+    (int (toZ w128 (h * 2 ^ 64 + l))))))
+
+abbrev tokenIn : List ℕ → Token
+tokenIn w = token (kindIn (getD w 0 0) (getD w 3 0) (getD w 4 0)) (getD w 1 0) (getD w 2 0)
+
+abbrev answerIn : List ℕ → Answer
+answerIn w = cond (eqb (getD w 0 0) endKind) end (cond (eqb (getD w 0 0) refusedKind) (refused (getD w 2 0) (getD w 1 0)) (is (tokenIn w)))
+
+abbrev replyIn : List ℕ → Reply
+replyIn w =
+    cond (eqb (getD w 0 0) endKind) finish
+    (cond (eqb (getD w 0 0) refusedKind) (refuse (getD w 2 0) (getD w 1 0))
+    (cond (eqb (getD w 0 0) moreKind) more (ready (tokenIn w))))
+
+abbrev lengthIn : List ℕ → Result ℕ
+lengthIn w = cond (eqb (getD w 0 0) refusedKind) (result.refused (getD w 2 0) (getD w 1 0)) (result.ok (getD w 2 0))
+
+joined : (z : ℤ) → SFits w128 z → toZ w128 (ofZ w128 z / 2 ^ 64 * 2 ^ 64 + ofZ w128 z % 2 ^ 64) ≡ z
+joined z f = let e : ofZ w128 z / 2 ^ 64 * 2 ^ 64 + ofZ w128 z % 2 ^ 64 ≡ ofZ w128 z = omega arith in ap (toZ w128) e ∙ toZ-ofZ w128 z f
+
+answer-of : (k : Kind) (s n u : ℕ) → KindFits k → answerIn (kindWords k s n u) ≡ is (token k s n)
+answer-of lparen s n u f = refl
+answer-of rparen s n u f = refl
+answer-of at-sign s n u f = refl
+answer-of symbol s n u f = refl
+answer-of (int z) s n u f = ap (λ (y : ℤ). is (token (int y) s n)) (joined z f)
+
+reply-of : (k : Kind) (s n u : ℕ) → KindFits k → replyIn (kindWords k s n u) ≡ ready (token k s n)
+reply-of lparen s n u f = refl
+reply-of rparen s n u f = refl
+reply-of at-sign s n u f = refl
+reply-of symbol s n u f = refl
+reply-of (int z) s n u f = ap (λ (y : ℤ). ready (token (int y) s n)) (joined z f)
+
+answer-back : (a : Answer) → AnswerFits a → answerIn (answerWords a) ≡ a
+unfolding answerWords
+answer-back end f = refl
+answer-back (is t) f = answer-of (t .kind) (t .start) (t .size) 0 f
+answer-back (refused n a) f = refl
+
+reply-back : (r : Reply) (u : ℕ) → ReplyFits r → replyIn (replyWords r u) ≡ r
+unfolding replyWords
+reply-back more u f = refl
+reply-back finish u f = refl
+reply-back (ready t) u f = reply-of (t .kind) (t .start) (t .size) u f
+reply-back (refuse n a) u f = refl
+
+kind-used : (k : Kind) (s n u : ℕ) → getD (kindWords k s n u) 5 0 ≡ u
+kind-used lparen s n u = refl
+kind-used rparen s n u = refl
+kind-used at-sign s n u = refl
+kind-used symbol s n u = refl
+kind-used (int z) s n u = refl
+
+pub used-back : (r : Reply) (u : ℕ) → getD (replyWords r u) 5 0 ≡ u
+unfolding replyWords
+used-back more u = refl
+used-back finish u = refl
+used-back (ready t) u = kind-used (t .kind) (t .start) (t .size) u
+used-back (refuse n a) u = refl
+
+length-back : (r : Result ℕ) → lengthIn (lengthWords r) ≡ r
+unfolding lengthWords
+length-back (result.ok n) = refl
+length-back (result.refused n a) = refl
+
+-- the uncut lexer's answers
+pub answer-same : (a b : Answer) → AnswerFits a → AnswerFits b → answerWords a ≡ answerWords b → a ≡ b
+answer-same a b f g e = sym (answer-back a f) ∙ ap answerIn e ∙ answer-back b g
+
+-- a call's answer, and the bytes consumed
+pub reply-same : (f g : Fed) → ReplyFits (f .reply) → ReplyFits (g .reply) → fedWords f ≡ fedWords g → f .reply ≡ g .reply
+reply-same f g h k e = sym (reply-back (f .reply) (f .used) h) ∙ ap replyIn e ∙ reply-back (g .reply) (g .used) k
+
+pub used-same : (f g : Fed) → fedWords f ≡ fedWords g → f .used ≡ g .used
+used-same f g e = sym (used-back (f .reply) (f .used)) ∙ ap (λ (w : List ℕ). getD w 5 0) e ∙ used-back (g .reply) (g .used)
+
+-- an answer that is a length
+pub length-same : (a b : Result ℕ) → lengthWords a ≡ lengthWords b → a ≡ b
+length-same a b e = sym (length-back a) ∙ ap lengthIn e ∙ length-back b

@@ -1,0 +1,3 @@
+-- The laws behind the words.
+pub mod Limbs
+pub mod Injective

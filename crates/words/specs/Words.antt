@@ -1,0 +1,88 @@
+-- An answer as eight words, for callers in C (host/include/tulbazhik.h). Every function of the doors answers in these, whatever it answers.
+use Prim.Native.Nat.{ℕ, _/_, _%_, _^_}
+use mathlib.Core.List.{List, [], _∷_}
+use lib.IntN.{ℤ}
+use mir.Syntax.{w128}
+use mir.Val.{ofZ}
+use Rattle.refusals.specs.Result as result
+use Rattle.refusals.specs.Result.{Result}
+use Rattle.lexer.specs.Tokens.{Kind, lparen, rparen, at-sign, symbol, int, Token, Answer, end, is, refused}
+use Rattle.feeder.specs.Feeding.{Reply, more, finish, ready, refuse, Fed}
+
+-- word 0, the kind of an answer
+abbrev pub endKind : ℕ
+endKind = 0
+
+abbrev pub lparenKind : ℕ
+lparenKind = 1
+
+abbrev pub rparenKind : ℕ
+rparenKind = 2
+
+abbrev pub atKind : ℕ
+atKind = 3
+
+abbrev pub symbolKind : ℕ
+symbolKind = 4
+
+abbrev pub intKind : ℕ
+intKind = 5
+
+abbrev pub refusedKind : ℕ
+refusedKind = 6
+
+abbrev pub moreKind : ℕ
+moreKind = 7
+
+abbrev pub doneKind : ℕ
+doneKind = 8
+
+-- kind; a start or a place; a length or a refusal's number; an integer's high and low 64 bits (two's complement); bytes consumed; the last two are to spare
+abbrev pub eight : ℕ → ℕ → ℕ → ℕ → ℕ → ℕ → List ℕ
+eight k p n h l u = k ∷ p ∷ n ∷ h ∷ l ∷ u ∷ 0 ∷ 0 ∷ []
+
+-- the words of a token of a kind, at a start, of a length, with the bytes consumed
+abbrev pub kindWords : Kind → ℕ → ℕ → ℕ → List ℕ
+kindWords lparen s n u = eight lparenKind s n 0 0 u
+kindWords rparen s n u = eight rparenKind s n 0 0 u
+kindWords at-sign s n u = eight atKind s n 0 0 u
+kindWords symbol s n u = eight symbolKind s n 0 0 u
+kindWords (int z) s n u = eight intKind s n (ofZ w128 z / 2 ^ 64) (ofZ w128 z % 2 ^ 64) u
+
+abbrev pub tokenWords : Token → ℕ → List ℕ
+tokenWords t u = kindWords (t .kind) (t .start) (t .size) u
+
+abbrev pub endWords : ℕ → List ℕ
+endWords u = eight endKind 0 0 0 0 u
+
+abbrev pub moreWords : ℕ → List ℕ
+moreWords u = eight moreKind 0 0 0 0 u
+
+-- a refusal's number and place
+abbrev pub refusedWords : ℕ → ℕ → ℕ → List ℕ
+refusedWords n a u = eight refusedKind a n 0 0 u
+
+-- so many bytes were written into the room lent
+abbrev pub doneWords : ℕ → List ℕ
+doneWords n = eight doneKind 0 n 0 0 0
+
+-- of the uncut lexer's answer
+unfoldable pub answerWords : Answer → List ℕ
+answerWords end = endWords 0
+answerWords (is t) = tokenWords t 0
+answerWords (refused n a) = refusedWords n a 0
+
+-- of a call's answer, with the bytes consumed
+unfoldable pub replyWords : Reply → ℕ → List ℕ
+replyWords more u = moreWords u
+replyWords finish u = endWords u
+replyWords (ready t) u = tokenWords t u
+replyWords (refuse n a) u = refusedWords n a u
+
+abbrev pub fedWords : Fed → List ℕ
+fedWords f = replyWords (f .reply) (f .used)
+
+-- of an answer that is the length of what was written
+unfoldable pub lengthWords : Result ℕ → List ℕ
+lengthWords (result.ok n) = doneWords n
+lengthWords (result.refused n a) = refusedWords n a 0
