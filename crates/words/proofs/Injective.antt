@@ -10,10 +10,9 @@ use lib.ListN.{getD}
 use mir.Syntax.{w128}
 use mir.Val.{SFits, ofZ, toZ}
 use mir.ValLaws.{toZ-ofZ}
-use Rattle.refusals.specs.Result as result
-use Rattle.refusals.specs.Result.{Result}
-use Rattle.lexer.specs.Tokens.{Kind, lparen, rparen, at-sign, symbol, int, Token, token, Answer, end, is, refused}
-use Rattle.feeder.specs.Feeding.{Reply, more, finish, ready, refuse, Fed}
+use Rattle.refusals.specs.Result.{Result, ok, refused}
+use Rattle.lexer.specs.Tokens.{Kind, lparen, rparen, at-sign, symbol, int, Token, token, Answer, end, is}
+use Rattle.feeder.specs.Feeding.{Reply, more, finish, ready, Fed}
 use Rattle.words.specs.Words.{kindWords, answerWords, replyWords, fedWords, lengthWords, endKind, lparenKind, rparenKind, atKind, symbolKind, refusedKind, moreKind}
 
 -- an integer of 128 bits, as every token has
@@ -25,15 +24,15 @@ KindFits symbol = Unit {0}
 KindFits (int z) = SFits w128 z
 
 abbrev pub AnswerFits : Answer → Type 0
-AnswerFits end = Unit {0}
-AnswerFits (is t) = KindFits (t .kind)
+AnswerFits (ok end) = Unit {0}
+AnswerFits (ok (is t)) = KindFits (t .kind)
 AnswerFits (refused n a) = Unit {0}
 
-abbrev pub ReplyFits : Reply → Type 0
-ReplyFits more = Unit {0}
-ReplyFits finish = Unit {0}
-ReplyFits (ready t) = KindFits (t .kind)
-ReplyFits (refuse n a) = Unit {0}
+abbrev pub ReplyFits : Result Reply → Type 0
+ReplyFits (ok more) = Unit {0}
+ReplyFits (ok finish) = Unit {0}
+ReplyFits (ok (ready t)) = KindFits (t .kind)
+ReplyFits (refused n a) = Unit {0}
 
 abbrev kindIn : ℕ → ℕ → ℕ → Kind
 kindIn k h l =
@@ -47,46 +46,56 @@ abbrev tokenIn : List ℕ → Token
 tokenIn w = token (kindIn (getD w 0 0) (getD w 3 0) (getD w 4 0)) (getD w 1 0) (getD w 2 0)
 
 abbrev answerIn : List ℕ → Answer
-answerIn w = cond (eqb (getD w 0 0) endKind) end (cond (eqb (getD w 0 0) refusedKind) (refused (getD w 2 0) (getD w 1 0)) (is (tokenIn w)))
+answerIn w = cond (eqb (getD w 0 0) endKind) (ok end) (cond (eqb (getD w 0 0) refusedKind) (refused (getD w 2 0) (getD w 1 0)) (ok (is (tokenIn w))))
 
-abbrev replyIn : List ℕ → Reply
+abbrev replyIn : List ℕ → Result Reply
 replyIn w =
-    cond (eqb (getD w 0 0) endKind) finish
-    (cond (eqb (getD w 0 0) refusedKind) (refuse (getD w 2 0) (getD w 1 0))
-    (cond (eqb (getD w 0 0) moreKind) more (ready (tokenIn w))))
+    cond (eqb (getD w 0 0) endKind) (ok finish)
+    (cond (eqb (getD w 0 0) refusedKind) (refused (getD w 2 0) (getD w 1 0))
+    (cond (eqb (getD w 0 0) moreKind) (ok more) (ok (ready (tokenIn w)))))
 
 abbrev lengthIn : List ℕ → Result ℕ
-lengthIn w = cond (eqb (getD w 0 0) refusedKind) (result.refused (getD w 2 0) (getD w 1 0)) (result.ok (getD w 2 0))
+lengthIn w = cond (eqb (getD w 0 0) refusedKind) (refused (getD w 2 0) (getD w 1 0)) (ok (getD w 2 0))
 
 joined : (z : ℤ) → SFits w128 z → toZ w128 (ofZ w128 z / 2 ^ 64 * 2 ^ 64 + ofZ w128 z % 2 ^ 64) ≡ z
 joined z f = let e : ofZ w128 z / 2 ^ 64 * 2 ^ 64 + ofZ w128 z % 2 ^ 64 ≡ ofZ w128 z = omega arith in ap (toZ w128) e ∙ toZ-ofZ w128 z f
 
-answer-of : (k : Kind) (s n u : ℕ) → KindFits k → answerIn (kindWords k s n u) ≡ is (token k s n)
-answer-of lparen s n u f = refl
-answer-of rparen s n u f = refl
-answer-of at-sign s n u f = refl
-answer-of symbol s n u f = refl
-answer-of (int z) s n u f = ap (λ (y : ℤ). is (token (int y) s n)) (joined z f)
+token-of : (k : Kind) (s n u : ℕ) → KindFits k → tokenIn (kindWords k s n u) ≡ token k s n
+token-of lparen s n u f = refl
+token-of rparen s n u f = refl
+token-of at-sign s n u f = refl
+token-of symbol s n u f = refl
+token-of (int z) s n u f = ap (λ (y : ℤ). token (int y) s n) (joined z f)
 
-reply-of : (k : Kind) (s n u : ℕ) → KindFits k → replyIn (kindWords k s n u) ≡ ready (token k s n)
-reply-of lparen s n u f = refl
-reply-of rparen s n u f = refl
-reply-of at-sign s n u f = refl
-reply-of symbol s n u f = refl
-reply-of (int z) s n u f = ap (λ (y : ℤ). ready (token (int y) s n)) (joined z f)
+-- the words of a token are read as a token
+answer-of : (k : Kind) (s n u : ℕ) → answerIn (kindWords k s n u) ≡ ok (is (tokenIn (kindWords k s n u)))
+answer-of lparen s n u = refl
+answer-of rparen s n u = refl
+answer-of at-sign s n u = refl
+answer-of symbol s n u = refl
+answer-of (int z) s n u = refl
+
+reply-of : (k : Kind) (s n u : ℕ) → replyIn (kindWords k s n u) ≡ ok (ready (tokenIn (kindWords k s n u)))
+reply-of lparen s n u = refl
+reply-of rparen s n u = refl
+reply-of at-sign s n u = refl
+reply-of symbol s n u = refl
+reply-of (int z) s n u = refl
 
 answer-back : (a : Answer) → AnswerFits a → answerIn (answerWords a) ≡ a
 unfolding answerWords
-answer-back end f = refl
-answer-back (is t) f = answer-of (t .kind) (t .start) (t .size) 0 f
+answer-back (ok end) f = refl
+answer-back (ok (is t)) f =
+    answer-of (t .kind) (t .start) (t .size) 0 ∙ ap (λ (x : Token). ok (is x)) (token-of (t .kind) (t .start) (t .size) 0 f)
 answer-back (refused n a) f = refl
 
-reply-back : (r : Reply) (u : ℕ) → ReplyFits r → replyIn (replyWords r u) ≡ r
+reply-back : (r : Result Reply) (u : ℕ) → ReplyFits r → replyIn (replyWords r u) ≡ r
 unfolding replyWords
-reply-back more u f = refl
-reply-back finish u f = refl
-reply-back (ready t) u f = reply-of (t .kind) (t .start) (t .size) u f
-reply-back (refuse n a) u f = refl
+reply-back (ok more) u f = refl
+reply-back (ok finish) u f = refl
+reply-back (ok (ready t)) u f =
+    reply-of (t .kind) (t .start) (t .size) u ∙ ap (λ (x : Token). ok (ready x)) (token-of (t .kind) (t .start) (t .size) u f)
+reply-back (refused n a) u f = refl
 
 kind-used : (k : Kind) (s n u : ℕ) → getD (kindWords k s n u) 5 0 ≡ u
 kind-used lparen s n u = refl
@@ -95,17 +104,17 @@ kind-used at-sign s n u = refl
 kind-used symbol s n u = refl
 kind-used (int z) s n u = refl
 
-pub used-back : (r : Reply) (u : ℕ) → getD (replyWords r u) 5 0 ≡ u
+pub used-back : (r : Result Reply) (u : ℕ) → getD (replyWords r u) 5 0 ≡ u
 unfolding replyWords
-used-back more u = refl
-used-back finish u = refl
-used-back (ready t) u = kind-used (t .kind) (t .start) (t .size) u
-used-back (refuse n a) u = refl
+used-back (ok more) u = refl
+used-back (ok finish) u = refl
+used-back (ok (ready t)) u = kind-used (t .kind) (t .start) (t .size) u
+used-back (refused n a) u = refl
 
 length-back : (r : Result ℕ) → lengthIn (lengthWords r) ≡ r
 unfolding lengthWords
-length-back (result.ok n) = refl
-length-back (result.refused n a) = refl
+length-back (ok n) = refl
+length-back (refused n a) = refl
 
 -- the uncut lexer's answers
 pub answer-same : (a b : Answer) → AnswerFits a → AnswerFits b → answerWords a ≡ answerWords b → a ≡ b

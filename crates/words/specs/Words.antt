@@ -4,10 +4,9 @@ use mathlib.Core.List.{List, [], _∷_}
 use lib.IntN.{ℤ}
 use mir.Syntax.{w128}
 use mir.Val.{ofZ}
-use Rattle.refusals.specs.Result as result
-use Rattle.refusals.specs.Result.{Result}
-use Rattle.lexer.specs.Tokens.{Kind, lparen, rparen, at-sign, symbol, int, Token, Answer, end, is, refused}
-use Rattle.feeder.specs.Feeding.{Reply, more, finish, ready, refuse, Fed}
+use Rattle.refusals.specs.Result.{Result, ok, refused}
+use Rattle.lexer.specs.Tokens.{Kind, lparen, rparen, at-sign, symbol, int, Token, Answer, end, is}
+use Rattle.feeder.specs.Feeding.{Reply, more, finish, ready, Fed}
 
 -- word 0, the kind of an answer
 abbrev pub endKind : ℕ
@@ -68,21 +67,21 @@ doneWords n = eight doneKind 0 n 0 0 0
 
 -- of the uncut lexer's answer
 unfoldable pub answerWords : Answer → List ℕ
-answerWords end = endWords 0
-answerWords (is t) = tokenWords t 0
+answerWords (ok end) = endWords 0
+answerWords (ok (is t)) = tokenWords t 0
 answerWords (refused n a) = refusedWords n a 0
 
 -- of a call's answer, with the bytes consumed
-unfoldable pub replyWords : Reply → ℕ → List ℕ
-replyWords more u = moreWords u
-replyWords finish u = endWords u
-replyWords (ready t) u = tokenWords t u
-replyWords (refuse n a) u = refusedWords n a u
+unfoldable pub replyWords : Result Reply → ℕ → List ℕ
+replyWords (ok more) u = moreWords u
+replyWords (ok finish) u = endWords u
+replyWords (ok (ready t)) u = tokenWords t u
+replyWords (refused n a) u = refusedWords n a u
 
 abbrev pub fedWords : Fed → List ℕ
 fedWords f = replyWords (f .reply) (f .used)
 
 -- of an answer that is the length of what was written
 unfoldable pub lengthWords : Result ℕ → List ℕ
-lengthWords (result.ok n) = doneWords n
-lengthWords (result.refused n a) = refusedWords n a 0
+lengthWords (ok n) = doneWords n
+lengthWords (refused n a) = refusedWords n a 0
