@@ -231,7 +231,7 @@ fed-lent d a b m n h k e f =
     let z = fed-same (record { out = a; state = m }) (record { out = b; state = n }) h k (e ∙ sym f) in
     (ap (λ (x : Fed). x .out) z, ap (λ (x : Fed). x .state) z)
 
--- ---- THEOREM one-answer: a field a public function, its promise as the source has it; refusals has no function, the kit is in OneAnswerKit
+-- ---- THEOREM one-answer: a field a public function, its promise as the source has it; refusals has no function, the doors for C are in OneAnswerDoors
 pub record OneAnswer : Type 0 where
   pub lists·byte-at : (s : List ℕ) (i : ℕ) → One ℕ (λ r. r ≡ getD s i 0)
   pub lists·less : (a b : ℕ) → One ℕ (λ r. r ≡ a - b)

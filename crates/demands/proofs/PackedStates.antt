@@ -7,13 +7,14 @@ use native.Mathlib.Omega.{arith}
 use lib.Dec.{eqb, leb}
 use Rattle.lists.proofs.Choice.{pick}
 use Rattle.refusals.specs.Numbers.{sourceLimit}
+use Rattle.refusals.specs.Result.{Result, ok, refused}
 use Rattle.classes.specs.declared.Class.{Class}
 use Rattle.classes.specs.declared.Class.the-variants.{Space, LineEnd, Semicolon, LParen, RParen, AtSign, FormFeed, Minus, Digit, Other}
 use Rattle.classes.specs.Classes.{classOf, lineEnd, semicolon, rparen, symbolOther, literalByte}
 use Rattle.wide.specs.Value.{split, val, Integer, is as integer, refused as noInteger, integerOf}
 use Rattle.lexer.specs.declared.literal.Reading.{Reading}
 use Rattle.lexer.specs.declared.literal.Reading.the-variants.{Empty, Foreign, Over, Number}
-use Rattle.lexer.specs.Tokens.{Answer, end, is, refused}
+use Rattle.lexer.specs.Tokens.{Answer, end, is}
 use Rattle.lexer.specs.Literals.{radixOf, signed, concluded}
 use Rattle.feeder.specs.declared.Half.{Half}
 use Rattle.feeder.specs.declared.Half.the-variants.{Clear, Semi, Paren}
@@ -22,24 +23,24 @@ use Rattle.feeder.specs.declared.Mode.the-variants.{Blank, Line, Opener, Symbol
 use Rattle.feeder.specs.declared.Phase.{Phase}
 use Rattle.feeder.specs.declared.Phase.the-variants.{Live, Closed, Refused}
 use Rattle.feeder.specs.declared.State.{State}
-use Rattle.feeder.specs.Machine.{closing, Turn, Go, Stay, Take, Halt, ends, begun, inBlank, inBlock, inDigits, turn, step}
+use Rattle.feeder.specs.Machine.{closing, Turn, Go, Stay, Take, endedBy, begun, inBlank, inBlock, inDigits, turn, step}
 use Rattle.feeder.specs.Feeding.{stepped, feedFrom, feedIn, feedOf, shut, closeIn, closeOf}
-use Rattle.kit_feed.specs.States.{packOf, unpackOf}
-use Rattle.kit_feed.proofs.Packed.{ModeFits, PhaseFits, back}
+use Rattle.tulbazhik_feed.specs.States.{packOf, unpackOf}
+use Rattle.tulbazhik_feed.proofs.Packed.{ModeFits, PhaseFits, back}
 use Rattle.demands.specs.Rules.{Reached, fresh, feeds, closes}
 
 -- ---- a radix and a refusal's number stay bytes
 
 AnswerFits : Answer → Type 0
-AnswerFits end = Unit {0}
-AnswerFits (is t) = Unit {0}
+AnswerFits (ok end) = Unit {0}
+AnswerFits (ok (is t)) = Unit {0}
 AnswerFits (refused n a) = n < 256
 
-TurnFits : Turn → Type 0
-TurnFits (Go m) = ModeFits m
-TurnFits (Stay t) = Unit {0}
-TurnFits (Take t) = Unit {0}
-TurnFits (Halt n a) = n < 256
+TurnFits : Result Turn → Type 0
+TurnFits (ok (Go m)) = ModeFits m
+TurnFits (ok (Stay t)) = Unit {0}
+TurnFits (ok (Take t)) = Unit {0}
+TurnFits (refused n a) = n < 256
 
 signed-fits : (st e : ℕ) (i : Integer) → AnswerFits (signed st e i)
 unfolding AnswerFits
@@ -53,10 +54,10 @@ concluded-fits minus st e Foreign = omega arith
 concluded-fits minus st e Over = omega arith
 concluded-fits minus st e (Number n) = signed-fits st e (integerOf minus (val n))
 
-ends-fits : (a : Answer) → AnswerFits a → TurnFits (ends a)
+ends-fits : (a : Answer) → AnswerFits a → TurnFits (endedBy a)
 unfolding AnswerFits TurnFits
-ends-fits end h = omega arith
-ends-fits (is t) h = tt
+ends-fits (ok end) h = omega arith
+ends-fits (ok (is t)) h = tt
 ends-fits (refused n a) h = h
 
 radix-fits : (b c : ℕ) → radixOf b c < 256
@@ -111,13 +112,13 @@ step-fits m p b h = pick TurnFits (leb sourceLimit p) (λ _. omega arith) (λ _.
 
 -- ---- and so does a call
 
-fits-on : (x : Turn) (p : ℕ) (q : List ℕ) → TurnFits x → ((k : Mode) → ModeFits k → PhaseFits (feedFrom k (suc p) q .state .phase))
+fits-on : (x : Result Turn) (p : ℕ) (q : List ℕ) → TurnFits x → ((k : Mode) → ModeFits k → PhaseFits (feedFrom k (suc p) q .state .phase))
     → PhaseFits (stepped x p (λ k. feedFrom k (suc p) q) .state .phase)
 unfolding TurnFits
-fits-on (Go k) p q h ih = ih k h
-fits-on (Stay t) p q h ih = tt
-fits-on (Take t) p q h ih = tt
-fits-on (Halt n a) p q h ih = h
+fits-on (ok (Go k)) p q h ih = ih k h
+fits-on (ok (Stay t)) p q h ih = tt
+fits-on (ok (Take t)) p q h ih = tt
+fits-on (refused n a) p q h ih = h
 
 fits-from : (q : List ℕ) (m : Mode) (p : ℕ) → ModeFits m → PhaseFits (feedFrom m p q .state .phase)
 unfolding feedFrom
@@ -135,8 +136,8 @@ feed-fits s q h = feed-in (s .phase) (s .place) q h
 
 shut-fits : (a : Answer) (p : ℕ) → AnswerFits a → PhaseFits (shut a p .state .phase)
 unfolding AnswerFits
-shut-fits end p h = tt
-shut-fits (is t) p h = tt
+shut-fits (ok end) p h = tt
+shut-fits (ok (is t)) p h = tt
 shut-fits (refused n a) p h = h
 
 closing-fits : (m : Mode) (p : ℕ) → AnswerFits (closing m p)

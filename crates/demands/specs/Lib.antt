@@ -1,4 +1,4 @@
 pub mod Driver
-pub mod DriverKit
+pub mod DriverWords
 pub mod Events
 pub mod Rules

@@ -1,7 +1,7 @@
--- For each public function of the kit two wrong answers that its promise rules out, on a given input, refuted by computation.
+-- For each public function of the doors for C two wrong answers that its promise rules out, on a given input, refuted by computation.
 use mathlib.Core.Path.{_≡_, ap, _∙_}
 use mathlib.Core.Bool.{true, false, cond}
-use mathlib.Core.List.{List, [], _∷_, _++_}
+use mathlib.Core.List.{List, [], _∷_}
 use Prim.Native.Nat.{ℕ, _-_, _^_}
 use native.Mathlib.Omega.{arith}
 use lib.IntN.{ℤ, pos, negsuc}
@@ -30,10 +30,10 @@ use Rattle.reader.specs.Grammar.{readItems, readTree, fileOf}
 use Rattle.reader.specs.Reading.{reading, readInto}
 use Rattle.printer.specs.Layout.{lay, pageFrom}
 use Rattle.printer.specs.Printing.{printing, printedInto}
-use Rattle.kit.specs.Words.{tokenWords, wordsOf, replyWords, fedWords}
-use Rattle.kit_feed.specs.States.{packOf, unpackOf, stateWords}
-use Rattle.kit_feed.proofs.Packed.{back}
-use Rattle.kit_trees.specs.Words.{readWords, printWords}
+use Rattle.words.specs.Words.{eight, endKind, rparenKind, symbolKind, intKind, refusedKind, moreKind, doneKind, tokenWords, refusedWords, doneWords, answerWords, replyWords, fedWords}
+use Rattle.tulbazhik_feed.specs.States.{packOf, unpackOf, stateWords}
+use Rattle.tulbazhik_feed.proofs.Packed.{back}
+use Rattle.tulbazhik_trees.specs.Words.{readWords, printWords}
 
 abbrev Not : Type 0 → Type 0
 Not P = P → ⊥
@@ -45,61 +45,75 @@ wide h l = record { hi = h; lo = l }
 word : (i : ℕ) (v w : List ℕ) → v ≡ w → getD v i 0 ≡ getD w i 0
 word i v w e = ap (λ (l : List ℕ). getD l i 0) e
 
--- ---- kit
+-- ---- words
 
--- words::of_token: an integer's limbs swapped; a negative one's high limb as a magnitude
-token-limbs : Not (5 ∷ 0 ∷ 1 ∷ 7 ∷ 0 ∷ [] ≡ tokenWords (tokenOf (code.Int (wide (pos 0) 7) 1) 0))
+-- of_token: an integer's limbs swapped; a negative one's high limb as a magnitude; the bytes consumed left out
+token-limbs : Not (eight intKind 0 1 7 0 0 ≡ tokenWords (tokenOf (code.Int (wide (pos 0) 7) 1) 0) 0)
 unfolding valueOf
 token-limbs e = let z : _≡_ {A = ℕ} 7 0 = word 3 _ _ e in omega arith
 
-token-magnitude : Not (5 ∷ 0 ∷ 2 ∷ 1 ∷ (2 ^ 64 - 1) ∷ [] ≡ tokenWords (tokenOf (code.Int (wide (negsuc 0) (2 ^ 64 - 1)) 2) 0))
+token-magnitude : Not (eight intKind 0 2 1 (2 ^ 64 - 1) 0 ≡ tokenWords (tokenOf (code.Int (wide (negsuc 0) (2 ^ 64 - 1)) 2) 0) 0)
 unfolding valueOf
 token-magnitude e = let z : _≡_ {A = ℕ} 1 (2 ^ 64 - 1) = word 3 _ _ e in omega arith
 
--- words::of_lexed: a refusal's number and place swapped; the end as "more"
-lexed-swapped : Not (6 ∷ 3 ∷ 8 ∷ 0 ∷ 0 ∷ [] ≡ wordsOf (answerOf (lexed.Refused (record { number = 3; place = 8 }))))
-unfolding wordsOf
+token-used : Not (eight rparenKind 4 1 0 0 0 ≡ tokenWords (tokenOf code.RParen 4) 1)
+token-used e = let z : _≡_ {A = ℕ} 0 1 = word 5 _ _ e in omega arith
+
+-- of_refusal: number and place swapped; told as done
+refusal-swapped : Not (eight refusedKind 3 8 0 0 0 ≡ refusedWords 3 8 0)
+refusal-swapped e = let z : _≡_ {A = ℕ} 3 8 = word 1 _ _ e in omega arith
+
+refusal-done : Not (eight doneKind 8 3 0 0 0 ≡ refusedWords 3 8 0)
+refusal-done e = let z : _≡_ {A = ℕ} 8 6 = word 0 _ _ e in omega arith
+
+-- of_length: the length as a place; as bytes consumed
+length-place : Not (eight doneKind 7 0 0 0 0 ≡ doneWords 7)
+length-place e = let z : _≡_ {A = ℕ} 7 0 = word 1 _ _ e in omega arith
+
+length-used : Not (eight doneKind 0 7 0 0 7 ≡ doneWords 7)
+length-used e = let z : _≡_ {A = ℕ} 7 0 = word 5 _ _ e in omega arith
+
+-- of_lexed: a refusal's number and place swapped; the end as "more"
+lexed-swapped : Not (eight refusedKind 3 8 0 0 0 ≡ answerWords (answerOf (lexed.Refused (record { number = 3; place = 8 }))))
+unfolding answerWords
 lexed-swapped e = let z : _≡_ {A = ℕ} 3 8 = word 1 _ _ e in omega arith
 
-lexed-end : Not (7 ∷ 0 ∷ 0 ∷ 0 ∷ 0 ∷ [] ≡ wordsOf (answerOf lexed.End))
-unfolding wordsOf
+lexed-end : Not (eight moreKind 0 0 0 0 0 ≡ answerWords (answerOf lexed.End))
+unfolding answerWords
 lexed-end e = let z : _≡_ {A = ℕ} 7 0 = word 0 _ _ e in omega arith
 
--- words::of_answer: "more" as the end; a token's start left out
-answer-more : Not (0 ∷ 0 ∷ 0 ∷ 0 ∷ 0 ∷ [] ≡ replyWords (replyOf answer.More))
-unfolding replyWords
-answer-more e = let z : _≡_ {A = ℕ} 0 7 = word 0 _ _ e in omega arith
-
-answer-start : Not (2 ∷ 0 ∷ 1 ∷ 0 ∷ 0 ∷ [] ≡ replyWords (replyOf (answer.Token code.RParen 4)))
-unfolding replyWords
-answer-start e = let z : _≡_ {A = ℕ} 0 4 = word 1 _ _ e in omega arith
-
--- words::of_out: the bytes consumed come first; 0 of them
+-- of_out: "more" as the end; the bytes consumed as a place; 0 of them
 abbrev moreOut : Out
 moreOut = record { answer = answer.More; used = 2 }
 
-out-first : Not (2 ∷ 7 ∷ 0 ∷ 0 ∷ 0 ∷ 0 ∷ [] ≡ replyWords (replyOf (moreOut .answer)) ++ (moreOut .used ∷ []))
+out-end : Not (eight endKind 0 0 0 0 2 ≡ replyWords (replyOf (moreOut .answer)) (moreOut .used))
 unfolding replyWords
-out-first e = let z : _≡_ {A = ℕ} 2 7 = word 0 _ _ e in omega arith
+out-end e = let z : _≡_ {A = ℕ} 0 7 = word 0 _ _ e in omega arith
 
-out-none : Not (7 ∷ 0 ∷ 0 ∷ 0 ∷ 0 ∷ 0 ∷ [] ≡ replyWords (replyOf (moreOut .answer)) ++ (moreOut .used ∷ []))
+out-place : Not (eight moreKind 2 0 0 0 0 ≡ replyWords (replyOf (moreOut .answer)) (moreOut .used))
+unfolding replyWords
+out-place e = let z : _≡_ {A = ℕ} 2 0 = word 1 _ _ e in omega arith
+
+out-none : Not (eight moreKind 0 0 0 0 0 ≡ replyWords (replyOf (moreOut .answer)) (moreOut .used))
 unfolding replyWords
 out-none e = let z : _≡_ {A = ℕ} 0 2 = word 5 _ _ e in omega arith
 
+-- ---- tulbazhik_lex
+
 -- tulbazhik_next_token: start and length swapped; a start that counts from `at`; a refusal's number and place swapped
-next-swapped : Not (4 ∷ 1 ∷ 0 ∷ 0 ∷ 0 ∷ [] ≡ wordsOf (nextToken (97 ∷ []) 0))
-unfolding wordsOf nextToken lexIn skip symbolEnd classOf
+next-swapped : Not (eight symbolKind 1 0 0 0 0 ≡ answerWords (nextToken (97 ∷ []) 0))
+unfolding answerWords nextToken lexIn skip symbolEnd classOf
 next-swapped e = let z : _≡_ {A = ℕ} 1 0 = word 1 _ _ e in omega arith
 
-next-relative : Not (2 ∷ 0 ∷ 1 ∷ 0 ∷ 0 ∷ [] ≡ wordsOf (nextToken (32 ∷ 41 ∷ []) 1))
-unfolding wordsOf nextToken lexIn skip classOf
+next-relative : Not (eight rparenKind 0 1 0 0 0 ≡ answerWords (nextToken (32 ∷ 41 ∷ []) 1))
+unfolding answerWords nextToken lexIn skip classOf
 next-relative e = let z : _≡_ {A = ℕ} 0 1 = word 1 _ _ e in omega arith
 
-next-refused : Not (6 ∷ 3 ∷ 0 ∷ 0 ∷ 0 ∷ [] ≡ wordsOf (nextToken (12 ∷ []) 0))
-unfolding wordsOf nextToken lexIn skip classOf
+next-refused : Not (eight refusedKind 3 0 0 0 0 ≡ answerWords (nextToken (12 ∷ []) 0))
+unfolding answerWords nextToken lexIn skip classOf
 next-refused e = let z : _≡_ {A = ℕ} 3 0 = word 1 _ _ e in omega arith
 
--- ---- kit_feed; words that are a state's mean that state
+-- ---- tulbazhik_feed; words that are a state's mean that state
 
 fresh-means : unpackOf (replicate 8 0) ≡ freshState
 unfolding packOf
@@ -173,7 +187,7 @@ feed-refused : Not (replicate 8 0 ≡ stateWords (feedOf (unpackOf (replicate 8 
 unfolding packOf feedOf feedFrom step turn classOf
 feed-refused e = let z : _≡_ {A = ℕ} 0 9 = word 0 _ _ (e ∙ ap (λ (s : State). stateWords (feedOf s (12 ∷ []))) fresh-means) in omega arith
 
-feed-none : Not (2 ∷ 0 ∷ 1 ∷ 0 ∷ 0 ∷ 0 ∷ [] ≡ fedWords (feedOf (unpackOf (replicate 8 0)) (41 ∷ [])))
+feed-none : Not (eight rparenKind 0 1 0 0 0 ≡ fedWords (feedOf (unpackOf (replicate 8 0)) (41 ∷ [])))
 unfolding replyWords feedOf feedFrom step turn classOf
 feed-none e = let z : _≡_ {A = ℕ} 0 1 = word 5 _ _ (e ∙ ap (λ (s : State). fedWords (feedOf s (41 ∷ []))) fresh-means) in omega arith
 
@@ -182,20 +196,20 @@ close-live : Not (replicate 8 0 ≡ stateWords (closeOf (unpackOf (replicate 8 0
 unfolding packOf closeOf closing
 close-live e = let z : _≡_ {A = ℕ} 0 8 = word 0 _ _ (e ∙ ap (λ (s : State). stateWords (closeOf s)) fresh-means) in omega arith
 
-close-drops : Not (replicate 6 0 ≡ fedWords (closeOf (unpackOf (3 ∷ 1 ∷ replicate 6 0))))
+close-drops : Not (eight endKind 0 0 0 0 0 ≡ fedWords (closeOf (unpackOf (3 ∷ 1 ∷ replicate 6 0))))
 unfolding replyWords closeOf closing
 close-drops e = let z : _≡_ {A = ℕ} 0 4 = word 0 _ _ (e ∙ ap (λ (s : State). fedWords (closeOf s)) symbol-means) in omega arith
 
--- ---- kit_trees
+-- ---- tulbazhik_trees
 
--- tulbazhik_read: the length in word 0; a refusal's number and place swapped; a room changed by a refusal
-read-word : Not (7 ∷ 0 ∷ [] ≡ readWords (reading (97 ∷ []) 7))
+-- tulbazhik_read: the length as a place; a refusal's number and place swapped; a room changed by a refusal
+read-place : Not (eight doneKind 7 0 0 0 0 ≡ readWords (reading (97 ∷ []) 7))
 unfolding reading fileOf readItems readTree records record-of le nextToken lexIn skip symbolEnd classOf
-read-word e = let z : _≡_ {A = ℕ} 7 0 = word 0 _ _ e in omega arith
+read-place e = let z : _≡_ {A = ℕ} 7 0 = word 1 _ _ e in omega arith
 
-read-swapped : Not (0 ∷ 9 ∷ [] ≡ readWords (reading (41 ∷ []) 7))
+read-swapped : Not (eight refusedKind 9 0 0 0 0 ≡ readWords (reading (41 ∷ []) 7))
 unfolding reading fileOf readItems readTree nextToken lexIn skip classOf
-read-swapped e = let z : _≡_ {A = ℕ} 0 9 = word 0 _ _ e in omega arith
+read-swapped e = let z : _≡_ {A = ℕ} 9 0 = word 1 _ _ e in omega arith
 
 read-changed : Not (0 ∷ [] ≡ readInto (41 ∷ []) (1 ∷ []))
 unfolding readInto fileOf readItems readTree nextToken lexIn skip classOf
@@ -206,13 +220,13 @@ abbrev a : List ℕ
 a = 7 ∷ 0 ∷ 0 ∷ 0 ∷ 1 ∷ 0 ∷ 97 ∷ []
 
 -- tulbazhik_print: 0 bytes; the bytes needed given as a length; a text changed where the room is too short
-print-none : Not (0 ∷ 0 ∷ [] ≡ printWords (printing a 0 2))
+print-none : Not (eight doneKind 0 0 0 0 0 ≡ printWords (printing a 0 2))
 unfolding printing tableOf treesAt treeAt recordAt stepAt number isSymbol runsOn classOf lay pageFrom
-print-none e = let z : _≡_ {A = ℕ} 0 2 = word 1 _ _ e in omega arith
+print-none e = let z : _≡_ {A = ℕ} 0 2 = word 2 _ _ e in omega arith
 
-print-needed : Not (0 ∷ 2 ∷ [] ≡ printWords (printing a 0 1))
+print-needed : Not (eight doneKind 0 2 0 0 0 ≡ printWords (printing a 0 1))
 unfolding printing tableOf treesAt treeAt recordAt stepAt number isSymbol runsOn classOf lay pageFrom
-print-needed e = let z : _≡_ {A = ℕ} 0 18 = word 0 _ _ e in omega arith
+print-needed e = let z : _≡_ {A = ℕ} 8 6 = word 0 _ _ e in omega arith
 
 print-changed : Not (97 ∷ [] ≡ printedInto a 0 (0 ∷ []))
 unfolding printedInto tableOf treesAt treeAt recordAt stepAt number isSymbol runsOn classOf lay pageFrom
