@@ -15,6 +15,7 @@ use Rattle.refusals.specs.Result.{Result, ok, refused}
 use Rattle.table.specs.Trees.{Tree, Trees, none, more, Good, Goods, records, recordsOf}
 use Rattle.table.specs.Decoding.{Found, found, andThen, treeAt, treesAt, tableOf}
 use Rattle.table.specs.Printable.{Printable, Printables}
+use Rattle.table.specs.Accepted.{Accepted}
 use Rattle.lists.proofs.Stands.{Stands, stands-left, stands-right, stands-join, stands-none, stands-length}
 use Rattle.table.proofs.Heads.{some}
 use Rattle.table.proofs.Encoded.{tree-is}
@@ -86,14 +87,6 @@ whole-holds t hb w (suc k) p hp h = at-end (ltb p (length t)) refl (whole-holds 
         → AllOf t w p (cond b (andThen (treeAt t w depthLimit p) (λ x q. andThen (treesAt t w k q) (λ xs r. ok (found (more x xs) r)))) (ok (found none p)))
     at-end false e ih = let l = ltb-false p (length t) e in (stands-none t p, omega arith, omega arith, tt, (λ _. tt))
     at-end true e ih = first (treeAt t w depthLimit p) (tree-holds t hb w depthLimit p hp) ih
-
--- what is known of a table that was accepted
-pub record Accepted (w : Bool) (t : List ℕ) (xs : Trees) (q : ℕ) : Type 0 where
-  pub is : t ≡ recordsOf xs
-  pub past : q ≡ length t
-  pub good : Goods xs depthLimit
-  pub printable : w ≡ true → Printables xs
-  pub small : length t ≤ tableLimit
 
 pub sound : (w : Bool) (t : List ℕ) (xs : Trees) (q : ℕ) → Bytes t → tableOf w t ≡ ok (found xs q) → Accepted w t xs q
 unfolding tableOf

@@ -4,4 +4,5 @@ pub mod Records
 pub mod Decoding
 pub mod Past
 pub mod Printable
+pub mod Accepted
 pub mod PrivateWalking
