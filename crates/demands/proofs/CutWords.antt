@@ -15,7 +15,7 @@ use Rattle.tulbazhik_feed.specs.States.{packOf}
 use Rattle.tulbazhik_feed.proofs.Packed.{PhaseFits, back}
 use Rattle.demands.specs.Driver.{after, driveBy, drive, joined}
 use Rattle.demands.specs.DriverWords.{told, afterWords, lost, driveWords, streamWords}
-use Rattle.demands.proofs.Cut.{cut-anywhere}
+use Rattle.demands.proofs.CutAnywhere.{cut-anywhere}
 use Rattle.demands.proofs.PackedStates.{feed-fits, close-fits}
 
 -- ---- the host reads from the words what the answer was

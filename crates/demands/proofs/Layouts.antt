@@ -4,15 +4,16 @@ use mathlib.Core.Path.{_≡_, refl}
 use mathlib.Core.List.{List, [], _∷_, map}
 use lib.IntN.{pos, negsuc}
 use lib.ListN.{length, replicate}
+use Rattle.refusals.specs.Result.{ok}
 use Rattle.classes.specs.Classes.{classOf}
 use Rattle.wide.specs.Text.{digits, integerText}
 use Rattle.wide.specs.Bytes.{le, number}
-use Rattle.table.specs.Trees.{Tree, Trees, symbol, integer, binding, list, none, more, runsOn, isSymbol, record-of, records, recordsOf}
+use Rattle.records.specs.Records.{record-of, headAt}
+use Rattle.table.specs.Trees.{Tree, Trees, symbol, integer, binding, list, none, more, runsOn, isSymbol, records, recordsOf}
 use Rattle.table.specs.Records.{recordAt}
 use Rattle.table.specs.Decoding.{itemsAt, stepAt, treeAt, treesAt, tableOf}
 use Rattle.printer.specs.Layout.{cost, lay, pageFrom, page}
 use Rattle.printer.specs.Printing.{printing, printedInto}
-use Rattle.printer.specs.Printing as print
 
 pub record Case : Type 0 where
   pub trees : Trees
@@ -68,10 +69,10 @@ unfolding cases cost lay pageFrom integerText digits
 sizes = refl
 
 -- the same of their tables: the answer of `print`, and a buffer of that size after it
-pub answers : map (λ (c : Case). printing (recordsOf (c .trees)) (c .width) (c .size)) cases ≡ map (λ (c : Case). print.text (c .size)) cases
-unfolding cases cost lay pageFrom integerText digits printing tableOf treesAt treeAt itemsAt recordAt stepAt number isSymbol runsOn classOf records record-of le
+pub answers : map (λ (c : Case). printing (recordsOf (c .trees)) (c .width) (c .size)) cases ≡ map (λ (c : Case). ok (c .size)) cases
+unfolding cases cost lay pageFrom integerText digits printing tableOf treesAt treeAt itemsAt recordAt headAt stepAt number isSymbol runsOn classOf records record-of le
 answers = refl
 
 pub buffers : map (λ (c : Case). printedInto (recordsOf (c .trees)) (c .width) (replicate (c .size) 0)) cases ≡ map (λ (c : Case). c .text) cases
-unfolding cases cost lay pageFrom integerText digits printedInto tableOf treesAt treeAt itemsAt recordAt stepAt number isSymbol runsOn classOf records record-of le
+unfolding cases cost lay pageFrom integerText digits printedInto tableOf treesAt treeAt itemsAt recordAt headAt stepAt number isSymbol runsOn classOf records record-of le
 buffers = refl

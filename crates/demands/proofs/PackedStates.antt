@@ -11,7 +11,7 @@ use Rattle.refusals.specs.Result.{Result, ok, refused}
 use Rattle.classes.specs.declared.Class.{Class}
 use Rattle.classes.specs.declared.Class.the-variants.{Space, LineEnd, Semicolon, LParen, RParen, AtSign, FormFeed, Minus, Digit, Other}
 use Rattle.classes.specs.Classes.{classOf, lineEnd, semicolon, rparen, symbolOther, literalByte}
-use Rattle.wide.specs.Value.{split, val, Integer, is as integer, refused as noInteger, integerOf}
+use Rattle.wide.specs.Value.{split, val, Integer, is as integer, none as noInteger, integerOf}
 use Rattle.lexer.specs.declared.literal.Reading.{Reading}
 use Rattle.lexer.specs.declared.literal.Reading.the-variants.{Empty, Foreign, Over, Number}
 use Rattle.lexer.specs.Tokens.{Answer, end, is}
@@ -100,7 +100,7 @@ turn-fits Blank p b h = blank-fits (classOf b) p b
 turn-fits Line p b h = pick ModeFits (lineEnd (classOf b)) (λ _. tt) (λ _. tt)
 turn-fits (Opener st) p b h = pick TurnFits (semicolon (classOf b)) (λ _. tt) (λ _. tt)
 turn-fits (Symbol st) p b h = pick TurnFits (symbolOther (classOf b)) (λ _. tt) (λ _. tt)
-turn-fits (Sign st) p b h = pick TurnFits (literalByte b) (λ _. begun-fits st b true) (λ _. omega arith)
+turn-fits (Sign st) p b h = pick TurnFits (literalByte b) (λ _. begun-fits st b true) (λ _. ends-fits (concluded true st p Empty) (concluded-fits true st p Empty))
 turn-fits (Block st d k) p b h = block-fits (classOf b) st d k
 turn-fits (Zero st minus) p b h =
     pick TurnFits (eqb (radixOf 48 b) 10) (λ _. digits-fits st 10 p b minus (Number (split 0)) (omega arith)) (λ _. radix-fits 48 b)
@@ -146,7 +146,7 @@ closing-fits Blank p = tt
 closing-fits Line p = tt
 closing-fits (Opener st) p = tt
 closing-fits (Symbol st) p = tt
-closing-fits (Sign st) p = omega arith
+closing-fits (Sign st) p = concluded-fits true st p Empty
 closing-fits (Block st d h) p = omega arith
 closing-fits (Zero st minus) p = concluded-fits minus st p (Number (split 0))
 closing-fits (Digits st minus r x) p = concluded-fits minus st p x

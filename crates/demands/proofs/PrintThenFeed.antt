@@ -1,20 +1,54 @@
--- What is printed of trees, cut anywhere, fed and closed, yields exactly their tokens. Assumes nothing.
-use mathlib.Core.Path.{_≡_, ap, _∙_}
+-- What is printed of a table, cut anywhere, fed and closed, yields exactly the table's tokens. Assumes nothing.
+use mathlib.Core.Path.{_≡_, refl, sym, ap, _∙_, subst}
+use mathlib.Core.Bool.{Bool, true, false, cond}
 use mathlib.Core.List.{List}
-use Prim.Native.Nat.{ℕ, _+_, _*_, _≤_, _<_}
-use lib.ListN.{length}
-use Rattle.refusals.specs.Numbers.{sourceLimit}
-use Rattle.lexer.specs.Said.{the-end, said}
-use Rattle.feeder.specs.Feeding.{freshState}
-use Rattle.table.specs.Trees.{Trees, spokens}
+use Prim.Native.Nat.{ℕ, _≤_}
+use native.Mathlib.Omega.{arith}
+use lib.Dec.{leb}
+use lib.ListN.{length, take, drop}
+use lib.Seq.{take-at}
+use Rattle.refusals.specs.Numbers.{sourceLimit, tableLimit, depthLimit, printRoom}
+use Rattle.refusals.specs.Result.{Result, ok, refused}
+use Rattle.lists.specs.Over.{over}
+use Rattle.wide.specs.Bytes.{Bytes}
+use Rattle.lexer.specs.BareTokens.{bareTokens}
+use Rattle.table.specs.Trees.{Trees, Goods, recordsOf}
+use Rattle.table.specs.Decoding.{Found, found, tableOf}
+use Rattle.table.specs.Printable.{Printables}
+use Rattle.table.specs.Accepted.{Accepted}
+use Rattle.table.proofs.Whole.{complete, sound}
 use Rattle.printer.specs.Layout.{page}
-use Rattle.demands.specs.Driver.{drive, joined}
-use Rattle.demands.proofs.Cut.{cut-anywhere}
-use Rattle.demands.proofs.Sayable.{Sayables}
-use Rattle.demands.proofs.Printed.{printed}
+use Rattle.printer.specs.Printing.{roomed, answered, leaves, printing, printedInto}
+use Rattle.demands.specs.PrintThenFeed.{Yields, TextOf, PrintThenFeed}
+use Rattle.demands.proofs.CutAnywhere.{cut-anywhere}
+use Rattle.demands.proofs.Spellable.{Spellables, spellables}
+use Rattle.demands.proofs.PrintedTokens.{printed}
 
--- THEOREM print-then-feed, over trees: the text of trees at any width, if a source may be as long, however it is cut, fed and then closed, yields
--- exactly the trees' tokens in order, then the end
-pub print-then-feed-trees : (xs : Trees) (w : ℕ) (ps : List (List ℕ)) (n : ℕ) → Sayables xs → joined ps ≡ page xs w → length (page xs w) ≤ sourceLimit
-    → 2 * length (page xs w) + length ps + 1 < n → said (page xs w) (drive n freshState ps) ≡ spokens xs the-end
-print-then-feed-trees xs w ps n h e l c = ap (said (page xs w)) (cut-anywhere (page xs w) ps n e l c) ∙ printed xs w h l
+-- over trees: their text at any width, if a source may be as long
+pub page-yields : (xs : Trees) (w : ℕ) → Spellables xs → length (page xs w) ≤ sourceLimit → Yields (page xs w) xs
+page-yields xs w h l ps n e c = ap (bareTokens (page xs w)) (cut-anywhere (page xs w) ps n e l c) ∙ printed xs w h l
+
+text-of : (t : List ℕ) (xs : Trees) (q w : ℕ) → Bytes t → tableOf true t ≡ ok (found xs q) → length (page xs w) ≤ sourceLimit → TextOf t (page xs w)
+text-of t xs q w hb e l =
+    let a : Accepted true t xs q = sound true t xs q hb e in
+    record { trees = xs; good = a .good; is = a .is; yields = page-yields xs w (spellables xs depthLimit (a .good) (a .printable refl)) l }
+
+pub print-then-feed : PrintThenFeed
+unfolding printing printedInto
+print-then-feed t w m b hb e l = by (tableOf true t) refl e
+  where
+    roomy : (xs : Trees) (q : ℕ) → tableOf true t ≡ ok (found xs q) → (r : Bool)
+        → cond r (ok (length (page xs w))) (refused printRoom (length (page xs w))) ≡ ok m → TextOf t (take m (cond r (over (page xs w) b) b))
+    roomy xs q f true h =
+        let k : length (page xs w) ≡ m = cc in
+        subst (TextOf t) (sym (take-at (page xs w) (drop (length (page xs w)) b) m k)) (text-of t xs q w hb f (subst (λ (x : ℕ). x ≤ sourceLimit) (sym k) l))
+    roomy xs q f false h = let z : _≡_ {A = ℕ} 0 1 = cc in absurd (omega arith)
+
+    by : (f : Result (Found Trees)) → tableOf true t ≡ f → answered f w (length b) ≡ ok m → TextOf t (take m (leaves f w b))
+    by (ok (found xs q)) f h = roomy xs q f (leb (length (page xs w)) (length b)) h
+    by (refused n a) f h = let z : _≡_ {A = ℕ} 0 1 = cc in absurd (omega arith)
+
+-- and the table of good trees is printed, where it is no longer than a table may be and none of its integers is -2^127: their text, in a room for it, or 18
+pub print-of-trees : (xs : Trees) (w k : ℕ) → Goods xs depthLimit → Printables xs → length (recordsOf xs) ≤ tableLimit → printing (recordsOf xs) w k ≡ roomed (page xs w) k
+unfolding printing
+print-of-trees xs w k g p h = ap (λ (f : Result (Found Trees)). answered f w k) (complete true xs g (λ e. p) h)

@@ -1,8 +1,8 @@
 -- For each public function of the lower crates two wrong answers that its promise rules out, on a given input, refuted by computation.
-use mathlib.Core.Path.{_≡_, refl, sym, ap, _∙_}
-use mathlib.Core.Bool.{Bool, true, false}
+use mathlib.Core.Path.{_≡_, ap}
+use mathlib.Core.Bool.{true, false}
 use mathlib.Core.List.{List, [], _∷_}
-use Prim.Native.Nat.{ℕ, suc, _+_, _*_, _-_, _^_}
+use Prim.Native.Nat.{ℕ, _+_, _*_, _-_, _^_}
 use native.Mathlib.Omega.{arith}
 use lib.IntN.{ℤ, pos, negsuc}
 use lib.ListN.{length, getD, replicate}
@@ -10,18 +10,18 @@ use lib.Signed.{ltZ}
 use mir.Syntax.{w64}
 use mir.Val.{ofZ}
 use Rattle.lists.specs.Over.{fitted}
-use Rattle.classes.specs.declared.Class.the-variants.{Space, Other, FormFeed}
+use Rattle.refusals.specs.Result.{ok, refused}
+use Rattle.classes.specs.declared.Class.the-variants.{Space}
 use Rattle.classes.specs.Classes.{classOf, blank, lineEnd, symbolFirst, symbolOther, digitOf, literalByte}
-use Rattle.wide.specs.declared.Limbs.{Limbs}
 use Rattle.wide.specs.declared.Wide.{Wide}
 use Rattle.wide.specs.declared.Grown.{Grown}
 use Rattle.wide.specs.declared.Grown.the-variants.{Fits, Over}
-use Rattle.wide.specs.Value.{val, value, valueOf, grown, Integer, is as integer, none as no-integer, integerOf}
+use Rattle.wide.specs.Value.{val, value, valueOf, grown, is as integer, integerOf}
 use Rattle.wide.specs.Text.{digits, integerText}
 use Rattle.wide.specs.Bytes.{le, number, numberIn, wideBytes, wideIn}
 use Rattle.lexer.specs.declared.literal.Reading.{Reading}
 use Rattle.lexer.specs.declared.literal.Reading.the-variants.{Empty, Foreign, Over as TooMuch, Number}
-use Rattle.lexer.specs.Tokens.{Answer, end, is, refused, token, int, symbol}
+use Rattle.lexer.specs.Tokens.{Answer, end, is, token, int, symbol}
 use Rattle.lexer.specs.Literals.{taken, grow, reading, literalEnd, radixOf, concluded, unsignedIn}
 use Rattle.lexer.specs.Lexing.{skip, symbolEnd, lexIn, nextToken}
 
@@ -42,8 +42,8 @@ lowOf Foreign = 0
 lowOf TooMuch = 0
 
 abbrev startOf : Answer → ℕ
-startOf (is t) = t .start
-startOf end = 0
+startOf (ok (is t)) = t .start
+startOf (ok end) = 0
 startOf (refused n a) = 0
 
 -- lists::byte_at: 0 everywhere; the last byte past the end
@@ -255,7 +255,7 @@ unfolding radixOf
 radix-one e = omega arith
 
 -- lexer::literal::concluded: no digits read as 0; the place past a bad literal
-concluded-empty : Not (is (token (int (pos 0)) 3 1) ≡ concluded true 3 4 Empty)
+concluded-empty : Not (ok (is (token (int (pos 0)) 3 1)) ≡ concluded true 3 4 Empty)
 unfolding concluded
 concluded-empty e = let z : _≡_ {A = ℕ} 0 1 = cc in omega arith
 
@@ -264,14 +264,14 @@ unfolding concluded
 concluded-place e = let z : _≡_ {A = ℕ} 4 0 = cc in omega arith
 
 -- lexer::next_token: a comment that ends at the first `;)`; `12ab` as 12; vertical tab as a blank
-next-first-closer : Not (is (token symbol 6 3) ≡ nextToken (40 ∷ 59 ∷ 40 ∷ 59 ∷ 59 ∷ 41 ∷ 120 ∷ 59 ∷ 41 ∷ []) 0)
+next-first-closer : Not (ok (is (token symbol 6 3)) ≡ nextToken (40 ∷ 59 ∷ 40 ∷ 59 ∷ 59 ∷ 41 ∷ 120 ∷ 59 ∷ 41 ∷ []) 0)
 unfolding nextToken lexIn skip symbolEnd classOf literalByte digitOf taken grow reading literalEnd radixOf concluded unsignedIn val grown integerOf
 next-first-closer e = let z : _≡_ {A = ℕ} 0 1 = cc in omega arith
 
-next-twelve : Not (is (token (int (pos 12)) 0 2) ≡ nextToken (49 ∷ 50 ∷ 97 ∷ 98 ∷ []) 0)
+next-twelve : Not (ok (is (token (int (pos 12)) 0 2)) ≡ nextToken (49 ∷ 50 ∷ 97 ∷ 98 ∷ []) 0)
 unfolding nextToken lexIn skip symbolEnd classOf literalByte digitOf taken grow reading literalEnd radixOf concluded unsignedIn val grown integerOf
 next-twelve e = let z : _≡_ {A = ℕ} 0 1 = cc in omega arith
 
-next-vertical-tab : Not (is (token symbol 1 1) ≡ nextToken (11 ∷ 97 ∷ []) 0)
+next-vertical-tab : Not (ok (is (token symbol 1 1)) ≡ nextToken (11 ∷ 97 ∷ []) 0)
 unfolding nextToken lexIn skip symbolEnd classOf literalByte digitOf taken grow reading literalEnd radixOf concluded unsignedIn val grown integerOf
 next-vertical-tab e = let z : _≡_ {A = ℕ} 1 0 = ap startOf e in omega arith

@@ -1,23 +1,25 @@
 -- For each public function of the feeder and the table two wrong answers that its promise rules out, on a given input, refuted by computation.
 use mathlib.Core.Path.{_≡_, ap}
-use mathlib.Core.Bool.{Bool, true, false}
+use mathlib.Core.Bool.{true, false}
 use mathlib.Core.List.{List, [], _∷_}
-use Prim.Native.Nat.{ℕ, suc, _+_}
+use Prim.Native.Nat.{ℕ}
 use native.Mathlib.Omega.{arith}
 use Rattle.refusals.specs.Numbers.{depthLimit}
+use Rattle.refusals.specs.Result.{ok, refused}
 use Rattle.classes.specs.Classes.{classOf}
 use Rattle.wide.specs.Bytes.{number}
-use Rattle.lexer.specs.Tokens.{token, lparen, rparen, symbol}
+use Rattle.records.specs.Records.{headAt}
+use Rattle.lexer.specs.Tokens.{token, lparen, symbol}
 use Rattle.feeder.specs.declared.State.{State}
-use Rattle.feeder.specs.declared.Mode.the-variants.{Blank, Line, Opener, Symbol as InSymbol}
+use Rattle.feeder.specs.declared.Mode.the-variants.{Blank, Symbol as InSymbol}
 use Rattle.feeder.specs.Machine.{turn, step, closing}
-use Rattle.feeder.specs.Feeding.{Reply, more, finish, ready, refuse, Fed, fed, live, closed, dead, freshState, feedFrom, feedOf, closeOf}
-use Rattle.table.specs.declared.Record.the-variants.{Symbol, Integer, Binding, Bad}
+use Rattle.feeder.specs.Feeding.{more, finish, ready, Fed, fed, live, closed, dead, freshState, feedFrom, feedOf, closeOf}
+use Rattle.table.specs.declared.Record.the-variants.{Symbol, Bad}
 use Rattle.table.specs.declared.Step.the-variants as judged-as
-use Rattle.table.specs.Walking.{pastSymbol, pastOf}
+use Rattle.table.specs.Past.{pastSymbol, pastOf}
 use Rattle.table.specs.Trees.{runsOn, isSymbol}
 use Rattle.table.specs.Records.{recordAt}
-use Rattle.table.specs.Decoding.{itemsAt, stepAt, treeAt, treesAt, tableOf, Verdict, good, bad, judged}
+use Rattle.table.specs.Decoding.{itemsAt, stepAt, treeAt, treesAt, tableOf, judged}
 
 abbrev Not : Type 0 → Type 0
 Not P = P → ⊥
@@ -27,38 +29,38 @@ fresh-place : Not (live Blank 1 ≡ freshState)
 fresh-place e = let z : _≡_ {A = ℕ} 1 0 = ap (λ (s : State). s .place) e in omega arith
 
 -- feeder::feed: `(` handed out before its next byte; `)` kept back; a form feed consumed; fed after a close
-feed-early : Not (fed (ready (token lparen 0 1)) 1 (live Blank 1) ≡ feedOf freshState (40 ∷ []))
+feed-early : Not (fed (ok (ready (token lparen 0 1))) 1 (live Blank 1) ≡ feedOf freshState (40 ∷ []))
 unfolding feedOf feedFrom step turn classOf
 feed-early e = let r = ap (λ (f : Fed). f .reply) e in let z : _≡_ {A = ℕ} 0 1 = cc r in omega arith
 
-feed-late : Not (fed more 1 (live Blank 1) ≡ feedOf freshState (41 ∷ []))
+feed-late : Not (fed (ok more) 1 (live Blank 1) ≡ feedOf freshState (41 ∷ []))
 unfolding feedOf feedFrom step turn classOf
 feed-late e = let r = ap (λ (f : Fed). f .reply) e in let z : _≡_ {A = ℕ} 0 1 = cc r in omega arith
 
-feed-form-feed : Not (fed (refuse 3 0) 1 (dead 3 0 1) ≡ feedOf freshState (12 ∷ []))
+feed-form-feed : Not (fed (refused 3 0) 1 (dead 3 0 1) ≡ feedOf freshState (12 ∷ []))
 unfolding feedOf feedFrom step turn classOf
 feed-form-feed e = let z : _≡_ {A = ℕ} 1 0 = ap (λ (f : Fed). f .used) e in omega arith
 
-feed-closed : Not (fed more 0 (closed 5) ≡ feedOf (closed 5) [])
+feed-closed : Not (fed (ok more) 0 (closed 5) ≡ feedOf (closed 5) [])
 unfolding feedOf
 feed-closed e = let r = ap (λ (f : Fed). f .reply) e in let z : _≡_ {A = ℕ} 0 1 = cc r in omega arith
 
 -- feeder::close: the held token is dropped; a closed state is refused
-close-drops : Not (fed finish 0 (closed 1) ≡ closeOf (live (InSymbol 0) 1))
+close-drops : Not (fed (ok finish) 0 (closed 1) ≡ closeOf (live (InSymbol 0) 1))
 unfolding closeOf closing
 close-drops e = let r = ap (λ (f : Fed). f .reply) e in let z : _≡_ {A = ℕ} 0 1 = cc r in omega arith
 
-close-again : Not (fed (refuse 19 5) 0 (closed 5) ≡ closeOf (closed 5))
+close-again : Not (fed (refused 19 5) 0 (closed 5) ≡ closeOf (closed 5))
 unfolding closeOf
 close-again e = let r = ap (λ (f : Fed). f .reply) e in let z : _≡_ {A = ℕ} 0 1 = cc r in omega arith
 
 -- table::record_at: an empty symbol is bad; a length past the end is let through
-record-empty : Not (Bad ≡ recordAt (6 ∷ 0 ∷ 0 ∷ 0 ∷ 1 ∷ 0 ∷ []) 0)
-unfolding recordAt number
+record-empty : Not (Bad 15 ≡ recordAt (6 ∷ 0 ∷ 0 ∷ 0 ∷ 1 ∷ 0 ∷ []) 0)
+unfolding recordAt headAt number
 record-empty e = let z : _≡_ {A = ℕ} 0 1 = cc in omega arith
 
 record-past : Not (Symbol 7 ≡ recordAt (7 ∷ 0 ∷ 0 ∷ 0 ∷ 1 ∷ 0 ∷ []) 0)
-unfolding recordAt number
+unfolding recordAt headAt number
 record-past e = let z : _≡_ {A = ℕ} 0 1 = cc in omega arith
 
 -- table::is_symbol: the empty one; one that begins with a digit
@@ -72,36 +74,36 @@ symbol-digit e = let z : _≡_ {A = ℕ} 0 1 = cc in omega arith
 
 -- table::step_at: an empty symbol is let through; a list that is too deep is let through
 step-empty : Not (judged-as.Symbol 6 ≡ stepAt (6 ∷ 0 ∷ 0 ∷ 0 ∷ 1 ∷ 0 ∷ []) false 0 true)
-unfolding stepAt recordAt number isSymbol
+unfolding stepAt recordAt headAt number isSymbol
 step-empty e = let z : _≡_ {A = ℕ} 0 1 = cc in omega arith
 
 step-deep : Not (judged-as.List 0 ≡ stepAt (10 ∷ 0 ∷ 0 ∷ 0 ∷ 4 ∷ 0 ∷ 0 ∷ 0 ∷ 0 ∷ 0 ∷ []) false 0 false)
-unfolding stepAt recordAt number
+unfolding stepAt recordAt headAt number
 step-deep e = let z : _≡_ {A = ℕ} 0 1 = cc in omega arith
 
 -- table::past_symbol: past an empty symbol; not past a good one
 past-empty : Not (6 ≡ pastSymbol (6 ∷ 0 ∷ 0 ∷ 0 ∷ 1 ∷ 0 ∷ []) 0)
-unfolding pastSymbol recordAt number isSymbol
+unfolding pastSymbol recordAt headAt number isSymbol
 past-empty e = omega arith
 
 past-stays : Not (0 ≡ pastSymbol (7 ∷ 0 ∷ 0 ∷ 0 ∷ 1 ∷ 0 ∷ 97 ∷ []) 0)
-unfolding pastSymbol recordAt number isSymbol runsOn classOf
+unfolding pastSymbol recordAt headAt number isSymbol runsOn classOf
 past-stays e = omega arith
 
 -- table::past: past a list's record and not its item; past a list whose item is missing
 past-item : Not (10 ≡ pastOf 0 (treeAt (10 ∷ 0 ∷ 0 ∷ 0 ∷ 4 ∷ 0 ∷ 1 ∷ 0 ∷ 0 ∷ 0 ∷ 7 ∷ 0 ∷ 0 ∷ 0 ∷ 1 ∷ 0 ∷ 97 ∷ []) false depthLimit 0))
-unfolding treeAt itemsAt recordAt stepAt number isSymbol runsOn classOf
+unfolding treeAt itemsAt recordAt headAt stepAt number isSymbol runsOn classOf
 past-item e = omega arith
 
 past-missing : Not (10 ≡ pastOf 0 (treeAt (10 ∷ 0 ∷ 0 ∷ 0 ∷ 4 ∷ 0 ∷ 1 ∷ 0 ∷ 0 ∷ 0 ∷ []) false depthLimit 0))
-unfolding treeAt itemsAt recordAt stepAt number
+unfolding treeAt itemsAt recordAt headAt stepAt number
 past-missing e = omega arith
 
 -- table::check: the empty table is refused; a table that ends inside a list is good
-check-empty : Not (bad 15 0 ≡ judged (tableOf false []))
+check-empty : Not (refused 15 0 ≡ judged (tableOf false []))
 unfolding tableOf treesAt
 check-empty e = let z : _≡_ {A = ℕ} 0 1 = cc in omega arith
 
-check-missing : Not (good ≡ judged (tableOf false (10 ∷ 0 ∷ 0 ∷ 0 ∷ 4 ∷ 0 ∷ 1 ∷ 0 ∷ 0 ∷ 0 ∷ [])))
-unfolding tableOf treesAt treeAt itemsAt recordAt stepAt number
+check-missing : Not (ok tt ≡ judged (tableOf false (10 ∷ 0 ∷ 0 ∷ 0 ∷ 4 ∷ 0 ∷ 1 ∷ 0 ∷ 0 ∷ 0 ∷ [])))
+unfolding tableOf treesAt treeAt itemsAt recordAt headAt stepAt number
 check-missing e = let z : _≡_ {A = ℕ} 0 1 = cc in omega arith

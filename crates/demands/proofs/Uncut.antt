@@ -9,17 +9,18 @@ use lib.Dec.{leb}
 use lib.ListN.{drop, getD, length, drop-of-length-le}
 use borrow.Author.Tests.{lt-ltb, le-ltb}
 use Rattle.refusals.specs.Numbers.{sourceLimit}
+use Rattle.refusals.specs.Result.{ok, refused}
 use Rattle.classes.specs.declared.Class.{Class}
 use Rattle.classes.specs.declared.Class.the-variants.{Space, LineEnd, Semicolon, LParen, RParen, AtSign, FormFeed, Minus, Digit, Other}
 use Rattle.classes.specs.Classes.{classOf, lineEnd, semicolon, rparen}
-use Rattle.lexer.specs.Tokens.{Token, token, past, lparen as openParen, rparen as closeParen, at-sign, Answer, end, is, refused}
+use Rattle.lexer.specs.Tokens.{Token, token, past, lparen as openParen, rparen as closeParen, at-sign, Answer, end, is}
 use Rattle.lexer.specs.Lexing.{Skip, Between, InLine, InBlock, Stop, One, Two, leave, skip, skipped, tokenIn, lexIn, lexAt, nextToken}
 use Rattle.lexer.specs.Streams.{Stream, then, onward, tokensFrom}
 use Rattle.feeder.specs.declared.Mode.the-variants.{Blank, Line, Opener, Block}
 use Rattle.feeder.specs.declared.Half.the-variants.{Clear, Semi, Paren}
 use Rattle.feeder.specs.Machine.{closing, Go, Stay, half, out, deeper, inBlank, turn}
-use Rattle.demands.specs.Events.{events}
-use Rattle.demands.proofs.Held.{At, inside, next, After, weaken, over, Ends, stays, lasts, in-symbol, digit-literal, begins, after-sign}
+use Rattle.demands.proofs.Events.{events}
+use Rattle.demands.proofs.HeldTokens.{At, inside, next, After, weaken, over, Ends, stays, lasts, in-symbol, digit-literal, begins, after-sign}
 
 -- the limit of the depth is not felt below the source's limit
 depth-on : (d : ℕ) → d < sourceLimit → deeper d ≡ d + 1
@@ -37,7 +38,7 @@ record Skips (s l : List ℕ) : Type 0 where
   block : (st d p : ℕ) → d ≤ p → At s p l → After s p (lexIn 0 (InBlock d st) l p) (events (Block st d Clear) p l)
   semi : (st d p : ℕ) (x : Answer) → d ≤ p → At s (suc p) l → After s (suc p) (pending (InBlock d st) Semicolon x l p) (events (Block st d Semi) (suc p) l)
   paren : (st d p : ℕ) (x : Answer) → d ≤ p → At s (suc p) l → After s (suc p) (pending (InBlock d st) LParen x l p) (events (Block st d Paren) (suc p) l)
-  opener : (p : ℕ) → At s (suc p) l → After s (suc p) (pending Between LParen (is (token openParen p 1)) l p) (events (Opener p) (suc p) l)
+  opener : (p : ℕ) → At s (suc p) l → After s (suc p) (pending Between LParen (ok (is (token openParen p 1))) l p) (events (Opener p) (suc p) l)
 
 skips-end : (s : List ℕ) → Skips s []
 unfolding events closing lexIn skip classOf After Ends
@@ -47,7 +48,7 @@ skips-end s = record {
   block = λ st d p h e. refl;
   semi = λ st d p x h e. refl;
   paren = λ st d p x h e. refl;
-  opener = λ p e. lasts s (suc p) (is (token openParen p 1)) (add-one p) e;
+  opener = λ p e. lasts s (suc p) (ok (is (token openParen p 1))) (add-one p) e;
 }
 
 module _ (s : List ℕ) (small : length s ≤ sourceLimit) where
@@ -103,10 +104,10 @@ module _ (s : List ℕ) (small : length s ≤ sourceLimit) where
     paren-on st d h false x = block-on st d h (classOf b) _
 
   opener-on : (l : List ℕ) → Skips s l → (b p : ℕ) → At s (suc p) (b ∷ l) → (t : Bool)
-      → After s (suc p) (skipped (cond t (Two (InBlock 1 p)) Stop) (is (token openParen p 1)) (λ k. lexIn 0 k (b ∷ l) (suc p)) (λ k. lexIn 1 k (b ∷ l) (suc p))) (over (cond t (Go (Block p 1 Clear)) (Stay (token openParen p 1))) (suc p) b l)
+      → After s (suc p) (skipped (cond t (Two (InBlock 1 p)) Stop) (ok (is (token openParen p 1))) (λ k. lexIn 0 k (b ∷ l) (suc p)) (λ k. lexIn 1 k (b ∷ l) (suc p))) (over (cond t (ok (Go (Block p 1 Clear))) (ok (Stay (token openParen p 1)))) (suc p) b l)
   unfolding lexIn Ends
   opener-on l ih b p e true = weaken s (suc p) _ _ (ih .block p 1 (suc (suc p)) (omega arith) (next s (suc p) b l e))
-  opener-on l ih b p e false = stays s (suc p) (is (token openParen p 1)) b l (add-one p) e
+  opener-on l ih b p e false = stays s (suc p) (ok (is (token openParen p 1))) b l (add-one p) e
 
   skips-on : (l : List ℕ) → Skips s l → (b : ℕ) → Skips s (b ∷ l)
   unfolding events turn lexIn skip
@@ -130,7 +131,7 @@ module _ (s : List ℕ) (small : length s ≤ sourceLimit) where
   strict (b ∷ l) p e = blank-on l (skips l) b p e (classOf b) refl
 
   -- so a token that the uncut rule gives at a place is handed out there
-  pub first-token : (l : List ℕ) (p : ℕ) (t : Token) → drop p s ≡ l → lexIn 0 Between l p ≡ is t → events Blank p l ≡ then t (events Blank (past t) (drop (past t) s))
+  pub first-token : (l : List ℕ) (p : ℕ) (t : Token) → drop p s ≡ l → lexIn 0 Between l p ≡ ok (is t) → events Blank p l ≡ then t (events Blank (past t) (drop (past t) s))
   unfolding After lexIn
   first-token [] p t e f = let z : _≡_ {A = ℕ} 0 1 = cc in absurd (omega arith)
   first-token (b ∷ l) p t e f =
@@ -145,9 +146,9 @@ module _ (s : List ℕ) (small : length s ≤ sourceLimit) where
   all-on : (p n : ℕ) (a : Answer) (x : Stream) → After s (suc p) a x
       → ((q : ℕ) → suc p ≤ q → q ≤ length s → events Blank q (drop q s) ≡ tokensFrom n s q) → x ≡ onward a (λ t. tokensFrom n s (past t))
   unfolding After
-  all-on p n end x h ih = h
+  all-on p n (ok end) x h ih = h
   all-on p n (refused k a) x h ih = h
-  all-on p n (is t) x h ih = h .2 ∙ ap (then t) (ih (past t) (h .0) (h .1))
+  all-on p n (ok (is t)) x h ih = h .2 ∙ ap (then t) (ih (past t) (h .0) (h .1))
 
   -- THEOREM uncut: from any place on, the machine, fed to the end and closed, hands out the uncut source's tokens and its refusal or end
   pub uncut : (n p : ℕ) → p ≤ length s → length s ≤ n + p → events Blank p (drop p s) ≡ tokensFrom (suc n) s p

@@ -7,7 +7,8 @@ use lib.ListN.{length, getD, replicate}
 use Rattle.classes.specs.Classes.{classOf}
 use Rattle.wide.specs.Bytes.{le, number}
 use Rattle.lists.specs.Over.{over}
-use Rattle.table.specs.Trees.{Tree, Trees, symbol, none, more, runsOn, isSymbol, record-of, records}
+use Rattle.records.specs.Records.{record-of, headAt}
+use Rattle.table.specs.Trees.{Tree, Trees, symbol, none, more, runsOn, isSymbol, records}
 use Rattle.table.specs.Records.{recordAt}
 use Rattle.table.specs.Decoding.{itemsAt, stepAt, treeAt, treesAt, tableOf}
 use Rattle.printer.specs.Layout.{cost, lay, pageFrom, page}
@@ -53,15 +54,15 @@ abbrev pub untouched : Printer
 untouched t w b = b
 
 pub one-line : Keeps oneLine → ⊥
-unfolding printedInto tableOf treesAt treeAt itemsAt recordAt stepAt number isSymbol runsOn classOf cost lay pageFrom records record-of le
+unfolding printedInto tableOf treesAt treeAt itemsAt recordAt headAt stepAt number isSymbol runsOn classOf cost lay pageFrom records record-of le
 one-line f = let e : _≡_ {A = ℕ} 32 10 = ap (λ (l : List ℕ). getD l 5 0) (f (records rule) 13 (replicate 24 0)) in omega arith
 
 -- the empty table leaves the buffer, and the table of `a` changes it
 pub same-bytes : (o : List ℕ) → Keeps (sameBytes o) → ⊥
-unfolding printedInto tableOf treesAt treeAt recordAt stepAt number isSymbol runsOn classOf lay pageFrom records record-of le
+unfolding printedInto tableOf treesAt treeAt recordAt headAt stepAt number isSymbol runsOn classOf lay pageFrom records record-of le
 same-bytes o f =
     let e : _≡_ {A = ℕ} 0 97 = ap (λ (l : List ℕ). getD l 0 0) (sym (f [] 0 (0 ∷ 0 ∷ [])) ∙ f (records a) 0 (0 ∷ 0 ∷ [])) in omega arith
 
 pub leaves-all : Keeps untouched → ⊥
-unfolding printedInto tableOf treesAt treeAt recordAt stepAt number isSymbol runsOn classOf lay pageFrom records record-of le
+unfolding printedInto tableOf treesAt treeAt recordAt headAt stepAt number isSymbol runsOn classOf lay pageFrom records record-of le
 leaves-all f = let e : _≡_ {A = ℕ} 0 97 = ap (λ (l : List ℕ). getD l 0 0) (f (records a) 0 (0 ∷ 0 ∷ [])) in omega arith

@@ -1,4 +1,6 @@
 pub mod Driver
 pub mod DriverWords
-pub mod Events
 pub mod Rules
+pub mod PrintThenFeed
+pub mod OneAnswer
+pub mod Worked

@@ -9,13 +9,14 @@ use lib.Dec.{eqb, leb, ltb}
 use borrow.Author.Tests.{leb-false}
 use Rattle.lists.proofs.Choice.{pick}
 use Rattle.refusals.specs.Numbers.{sourceLimit}
+use Rattle.refusals.specs.Result.{Result, ok, refused}
 use Rattle.classes.specs.declared.Class.{Class}
 use Rattle.classes.specs.declared.Class.the-variants.{Space, LineEnd, Semicolon, LParen, RParen, AtSign, FormFeed, Minus, Digit, Other}
 use Rattle.classes.specs.Classes.{classOf, lineEnd, semicolon, rparen, symbolOther, literalByte}
 use Rattle.wide.specs.Value.{split}
 use Rattle.lexer.specs.declared.literal.Reading.{Reading}
-use Rattle.lexer.specs.declared.literal.Reading.the-variants.{Number}
-use Rattle.lexer.specs.Tokens.{token, past, Answer, end, is, refused}
+use Rattle.lexer.specs.declared.literal.Reading.the-variants.{Empty, Number}
+use Rattle.lexer.specs.Tokens.{token, past, Answer, end, is}
 use Rattle.lexer.specs.Literals.{radixOf, concluded}
 use Rattle.feeder.specs.declared.Half.{Half}
 use Rattle.feeder.specs.declared.Half.the-variants.{Clear, Semi, Paren}
@@ -24,10 +25,10 @@ use Rattle.feeder.specs.declared.Mode.the-variants.{Blank, Line, Opener, Symbol
 use Rattle.feeder.specs.declared.Phase.{Phase}
 use Rattle.feeder.specs.declared.Phase.the-variants.{Live, Closed, Refused}
 use Rattle.feeder.specs.declared.State.{State}
-use Rattle.feeder.specs.Machine.{closing, Turn, Go, Stay, Take, Halt, ends, begun, out, deeper, inBlank, inBlock, inDigits, turn, step}
-use Rattle.feeder.specs.Feeding.{Reply, more, finish, ready, refuse, Fed, stepped, feedFrom, feedIn, feedOf, shut, closeIn, closeOf}
+use Rattle.feeder.specs.Machine.{closing, Turn, Go, Stay, Take, endedBy, begun, out, deeper, inBlank, inBlock, inDigits, turn, step}
+use Rattle.feeder.specs.Feeding.{Reply, more, finish, ready, Fed, stepped, feedFrom, feedIn, feedOf, shut, closeIn, closeOf}
 use Rattle.demands.specs.Rules.{Reached, fresh, feeds, closes}
-use Rattle.demands.proofs.Held.{Ends, whole, concluded-ends}
+use Rattle.demands.proofs.HeldTokens.{Ends, whole, concluded-ends}
 
 abbrev pub Sound : Mode → ℕ → Type 0
 Sound Blank p = Unit {0}
@@ -40,16 +41,16 @@ Sound (Zero st minus) p = st < p
 Sound (Digits st minus r x) p = st < p
 
 -- what a turn at p leaves
-Leaves : ℕ → Turn → Type 0
-Leaves p (Go k) = Sound k (suc p)
-Leaves p (Stay t) = past t ≡ p
-Leaves p (Take t) = past t ≡ suc p
-Leaves p (Halt n a) = Unit {0}
+Leaves : ℕ → Result Turn → Type 0
+Leaves p (ok (Go k)) = Sound k (suc p)
+Leaves p (ok (Stay t)) = past t ≡ p
+Leaves p (ok (Take t)) = past t ≡ suc p
+Leaves p (refused n a) = Unit {0}
 
-leaves-ends : (p : ℕ) (a : Answer) → Ends p a → Leaves p (ends a)
+leaves-ends : (p : ℕ) (a : Answer) → Ends p a → Leaves p (endedBy a)
 unfolding Leaves Ends
-leaves-ends p end h = absurd h
-leaves-ends p (is t) h = h
+leaves-ends p (ok end) h = absurd h
+leaves-ends p (ok (is t)) h = h
 leaves-ends p (refused n a) h = tt
 
 leaves-begun : (st p b : ℕ) (minus : Bool) → st ≤ p → Sound (begun st minus b) (suc p)
@@ -91,7 +92,7 @@ leaves Blank p b s = leaves-blank (classOf b) p b
 leaves Line p b s = pick (λ k. Sound k (suc p)) (lineEnd (classOf b)) (λ _. tt) (λ _. tt)
 leaves (Opener st) p b s = pick (Leaves p) (semicolon (classOf b)) (λ _. (omega arith, omega arith, omega arith)) (λ _. s)
 leaves (Symbol st) p b s = pick (Leaves p) (symbolOther (classOf b)) (λ _. omega arith) (λ _. whole st p (omega arith))
-leaves (Sign st) p b s = pick (Leaves p) (literalByte b) (λ _. leaves-begun st p b true (omega arith)) (λ _. tt)
+leaves (Sign st) p b s = pick (Leaves p) (literalByte b) (λ _. leaves-begun st p b true (omega arith)) (λ _. leaves-ends p (concluded true st p Empty) (concluded-ends [] st true p Empty (omega arith)))
 leaves (Block st d h) p b s = leaves-block (classOf b) st d p h s
 leaves (Zero st minus) p b s =
     pick (Leaves p) (eqb (radixOf 48 b) 10) (λ _. leaves-digits st 10 p b minus (Number (split 0)) s) (λ _. omega arith)
@@ -103,29 +104,29 @@ SoundIn Closed p = Unit {0}
 SoundIn (Refused r) p = Unit {0}
 
 -- of a state, and of the token that is handed out with it
-abbrev pub TokenAt : Reply → ℕ → Type 0
-TokenAt more p = Unit {0}
-TokenAt finish p = Unit {0}
-TokenAt (ready t) p = past t ≡ p
-TokenAt (refuse n a) p = Unit {0}
+abbrev pub TokenAt : Result Reply → ℕ → Type 0
+TokenAt (ok more) p = Unit {0}
+TokenAt (ok finish) p = Unit {0}
+TokenAt (ok (ready t)) p = past t ≡ p
+TokenAt (refused n a) p = Unit {0}
 
 pub record SoundFed (f : Fed) : Type 0 where
   pub phase-is : SoundIn (f .state .phase) (f .state .place)
   pub bound : f .state .place ≤ sourceLimit
   pub token-at : TokenAt (f .reply) (f .state .place)
 
-fed-on : (x : Turn) (p : ℕ) (q : List ℕ) → p < sourceLimit → Leaves p x → ((k : Mode) → Sound k (suc p) → SoundFed (feedFrom k (suc p) q)) → SoundFed (stepped x p (λ k. feedFrom k (suc p) q))
+fed-on : (x : Result Turn) (p : ℕ) (q : List ℕ) → p < sourceLimit → Leaves p x → ((k : Mode) → Sound k (suc p) → SoundFed (feedFrom k (suc p) q)) → SoundFed (stepped x p (λ k. feedFrom k (suc p) q))
 unfolding Leaves
-fed-on (Go k) p q l h ih = let g = ih k h in record { phase-is = g .phase-is; bound = g .bound; token-at = g .token-at }
-fed-on (Stay t) p q l h ih = record { phase-is = tt; bound = omega arith; token-at = h }
-fed-on (Take t) p q l h ih = record { phase-is = tt; bound = omega arith; token-at = h }
-fed-on (Halt n a) p q l h ih = record { phase-is = tt; bound = omega arith; token-at = tt }
+fed-on (ok (Go k)) p q l h ih = let g = ih k h in record { phase-is = g .phase-is; bound = g .bound; token-at = g .token-at }
+fed-on (ok (Stay t)) p q l h ih = record { phase-is = tt; bound = omega arith; token-at = h }
+fed-on (ok (Take t)) p q l h ih = record { phase-is = tt; bound = omega arith; token-at = h }
+fed-on (refused n a) p q l h ih = record { phase-is = tt; bound = omega arith; token-at = tt }
 
 fed-from : (q : List ℕ) (m : Mode) (p : ℕ) → Sound m p → p ≤ sourceLimit → SoundFed (feedFrom m p q)
 unfolding feedFrom step
 fed-from [] m p s l = record { phase-is = s; bound = l; token-at = tt }
 fed-from (b ∷ q) m p s l =
-    pick (λ (x : Turn). SoundFed (stepped x p (λ k. feedFrom k (suc p) q))) (leb sourceLimit p)
+    pick (λ (x : Result Turn). SoundFed (stepped x p (λ k. feedFrom k (suc p) q))) (leb sourceLimit p)
     (λ _. record { phase-is = tt; bound = l; token-at = tt })
     (λ e. fed-on (turn m p b) p q (leb-false sourceLimit p e) (leaves m p b s) (λ k h. fed-from q k (suc p) h (omega (arith, leb-false sourceLimit p e))))
 
@@ -135,14 +136,14 @@ fed-sound Closed p q s l = record { phase-is = tt; bound = l; token-at = tt }
 fed-sound (Refused r) p q s l = record { phase-is = tt; bound = l; token-at = tt }
 
 shut-sound : (a : Answer) (p : ℕ) → p ≤ sourceLimit → TokenAt (shut a p .reply) p → SoundFed (shut a p)
-shut-sound end p l h = record { phase-is = tt; bound = l; token-at = tt }
-shut-sound (is t) p l h = record { phase-is = tt; bound = l; token-at = h }
+shut-sound (ok end) p l h = record { phase-is = tt; bound = l; token-at = tt }
+shut-sound (ok (is t)) p l h = record { phase-is = tt; bound = l; token-at = h }
 shut-sound (refused n a) p l h = record { phase-is = tt; bound = l; token-at = tt }
 
 ended : (p : ℕ) (a : Answer) → Ends p a → TokenAt (shut a p .reply) p
 unfolding Ends
-ended p end h = tt
-ended p (is t) h = h
+ended p (ok end) h = tt
+ended p (ok (is t)) h = h
 ended p (refused n a) h = tt
 
 closing-ends : (m : Mode) (p : ℕ) → Sound m p → TokenAt (shut (closing m p) p .reply) p
@@ -151,7 +152,7 @@ closing-ends Blank p s = tt
 closing-ends Line p s = tt
 closing-ends (Opener st) p s = s
 closing-ends (Symbol st) p s = whole st p (omega arith)
-closing-ends (Sign st) p s = tt
+closing-ends (Sign st) p s = ended p _ (concluded-ends [] st true p Empty (omega arith))
 closing-ends (Block st d h) p s = tt
 closing-ends (Zero st minus) p s = ended p _ (concluded-ends [] st minus p (Number (split 0)) (omega arith))
 closing-ends (Digits st minus r x) p s = ended p _ (concluded-ends [] st minus p x (omega arith))

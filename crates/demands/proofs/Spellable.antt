@@ -10,15 +10,15 @@ use Rattle.table.specs.Trees.{Tree, Trees, symbol, integer, binding, list, none
 use Rattle.table.specs.Printable.{lowestInteger, Printable, Printables}
 
 unfoldable mutual
-  pub Sayable : Tree → Type 0
-  Sayable (symbol n) = isSymbol n ≡ true
-  Sayable (integer z) = InRange z × (z ≡ lowestInteger → ⊥)
-  Sayable (binding n x) = (isSymbol n ≡ true) × Sayable x
-  Sayable (list xs) = Sayables xs
+  pub Spellable : Tree → Type 0
+  Spellable (symbol n) = isSymbol n ≡ true
+  Spellable (integer z) = InRange z × (z ≡ lowestInteger → ⊥)
+  Spellable (binding n x) = (isSymbol n ≡ true) × Spellable x
+  Spellable (list xs) = Spellables xs
 
-  pub Sayables : Trees → Type 0
-  Sayables none = Unit {0}
-  Sayables (more x xs) = Sayable x × Sayables xs
+  pub Spellables : Trees → Type 0
+  Spellables none = Unit {0}
+  Spellables (more x xs) = Spellable x × Spellables xs
 
 -- an integer in range that is not -2^127 has a magnitude below 2^127
 above : (N n : ℕ) → n < N → (n ≡ N - 1 → ⊥) → suc n < N
@@ -34,14 +34,14 @@ magnitude (negsuc n) h d = above (2 ^ 127) n h (λ e. d (ap negsuc e))
 
 -- good trees that can be printed, as a table that is printed holds them
 mutual
-  unfolding Sayable Printable Good
+  unfolding Spellable Printable Good
 
-  pub sayable : (x : Tree) (d : ℕ) → Good x d → Printable x → Sayable x
-  sayable (symbol n) d g p = g .0
-  sayable (integer z) d g p = (g, p)
-  sayable (binding n x) d g p = (g .1, sayable x (d - 1) (g .3) p)
-  sayable (list xs) d g p = sayables xs (d - 1) (g .2) p
+  pub spellable : (x : Tree) (d : ℕ) → Good x d → Printable x → Spellable x
+  spellable (symbol n) d g p = g .0
+  spellable (integer z) d g p = (g, p)
+  spellable (binding n x) d g p = (g .1, spellable x (d - 1) (g .3) p)
+  spellable (list xs) d g p = spellables xs (d - 1) (g .2) p
 
-  pub sayables : (xs : Trees) (d : ℕ) → Goods xs d → Printables xs → Sayables xs
-  sayables none d g p = tt
-  sayables (more x xs) d g p = (sayable x d (g .0) (p .0), sayables xs d (g .1) (p .1))
+  pub spellables : (xs : Trees) (d : ℕ) → Goods xs d → Printables xs → Spellables xs
+  spellables none d g p = tt
+  spellables (more x xs) d g p = (spellable x d (g .0) (p .0), spellables xs d (g .1) (p .1))

@@ -11,6 +11,7 @@ use lib.ListN.{getD, length, length-append}
 use mir.Syntax.{w128}
 use mir.ValLaws.{toZ-pos, toZ-neg}
 use borrow.Author.Tests.{lt-ltb, ltb-true, ltb-false, lt-leb, ne-eqb}
+use Rattle.refusals.specs.Result.{ok}
 use Rattle.classes.specs.declared.Class.the-variants.{Digit}
 use Rattle.classes.specs.Classes.{classOf, semicolon, digitOf, literalByte}
 use Rattle.wide.specs.Value.{val, split, grown, is as isInteger, integerOf}
@@ -188,20 +189,20 @@ negative n h =
 
 -- an integer's decimals, before a byte that ends a literal and names no radix, are its token; -2^127 has none
 pub spelt : (c : ℕ) (r : List ℕ) → literalByte c ≡ false → radixOf 48 c ≡ 10 → (z : ℤ) (p : ℕ) → natAbs z < 2 ^ 127
-    → lexIn 0 Between (integerText z ++ (c ∷ r)) p ≡ is (token (int z) p (length (integerText z)))
+    → lexIn 0 Between (integerText z ++ (c ∷ r)) p ≡ ok (is (token (int z) p (length (integerText z))))
 unfolding integerText
 spelt c r e f (pos n) p h =
     let s : Spells n (digitsOf n) = spells-of n h in
     leads c r e f n p (digitsOf n) s
     ∙ unsigned c r e f false p p n (digitsOf n) s
     ∙ ap (signed p (p + length (digitsOf n))) (positive n h)
-    ∙ ap (λ (k : ℕ). is (token (int (pos n)) p k)) (span p (length (digitsOf n)))
+    ∙ ap (λ (k : ℕ). ok (is (token (int (pos n)) p k))) (span p (length (digitsOf n)))
 spelt c r e f (negsuc n) p h =
     let s : Spells (suc n) (digitsOf (suc n)) = spells-of (suc n) h in
     minus-leads p (digitsOf (suc n) ++ (c ∷ r))
     ∙ unsigned c r e f true p (suc p) (suc n) (digitsOf (suc n)) s
     ∙ ap (signed p (suc p + length (digitsOf (suc n)))) (negative n h)
-    ∙ ap (λ (k : ℕ). is (token (int (negsuc n)) p k)) (span-suc p (length (digitsOf (suc n))))
+    ∙ ap (λ (k : ℕ). ok (is (token (int (negsuc n)) p k))) (span-suc p (length (digitsOf (suc n))))
 
 -- they begin with no `;`, which would open a comment behind `(`
 pub starts : (z : ℤ) (r : List ℕ) → natAbs z < 2 ^ 127 → semicolon (classOf (getD (integerText z ++ r) 0 0)) ≡ false

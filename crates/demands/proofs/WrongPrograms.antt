@@ -7,8 +7,9 @@ use native.Mathlib.Omega.{arith}
 use lib.Dec.{eqb}
 use lib.ListN.{length}
 use Rattle.refusals.specs.Numbers.{formFeed}
+use Rattle.refusals.specs.Result.{ok, refused}
 use Rattle.classes.specs.Classes.{classOf}
-use Rattle.lexer.specs.Tokens.{Token, token, rparen, Answer, refused}
+use Rattle.lexer.specs.Tokens.{Token, token, rparen, Answer}
 use Rattle.lexer.specs.Lexing.{skip, symbolEnd, lexIn, nextToken}
 use Rattle.lexer.specs.Streams.{tokensFrom, tokensOf}
 use Rattle.feeder.specs.declared.State.{State}
@@ -26,9 +27,9 @@ refuses-all e = let z : _≡_ {A = ℕ} 0 1 = cc in omega arith
 
 -- a feeder that lexes the first piece and answers "more" to the rest
 abbrev firstPiece : State → List ℕ → Fed
-firstPiece s q = cond (eqb (s .place) 0) (feedOf s q) (fed more (length q) (record { phase = s .phase; place = s .place + length q }))
+firstPiece s q = cond (eqb (s .place) 0) (feedOf s q) (fed (ok more) (length q) (record { phase = s .phase; place = s .place + length q }))
 
-no-token : (t : Token) → more ≡ ready t → ⊥
+no-token : (t : Token) → ok more ≡ ok (ready t) → ⊥
 no-token t e = let z : _≡_ {A = ℕ} 0 1 = cc in omega arith
 
 -- its promise is broken at the `)` of ` )`, cut before it

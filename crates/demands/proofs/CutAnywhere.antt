@@ -6,28 +6,29 @@ use native.Mathlib.Omega.{arith}
 use lib.ListN.{drop, length, length-append}
 use borrow.Author.Tests.{lt-leb}
 use Rattle.refusals.specs.Numbers.{sourceLimit, fedAfterClose}
+use Rattle.refusals.specs.Result.{Result, ok, refused}
 use Rattle.classes.specs.declared.Class.{Class}
 use Rattle.classes.specs.declared.Class.the-variants.{Space, LineEnd, Semicolon, LParen, RParen, AtSign, FormFeed, Minus, Digit, Other}
 use Rattle.classes.specs.Classes.{classOf}
-use Rattle.lexer.specs.Tokens.{Token, Answer, end, is, refused}
-use Rattle.lexer.specs.Streams.{Stream, stop, then, tokensOf}
+use Rattle.lexer.specs.Tokens.{Token, Answer, end, is}
+use Rattle.lexer.specs.Streams.{Stream, ends, then}
 use Rattle.feeder.specs.declared.Mode.{Mode}
 use Rattle.feeder.specs.declared.Mode.the-variants.{Blank, Line, Opener, Symbol, Sign, Block, Zero, Digits}
 use Rattle.feeder.specs.declared.Phase.{Phase}
 use Rattle.feeder.specs.declared.Phase.the-variants.{Live, Closed, Refused}
 use Rattle.feeder.specs.declared.State.{State}
-use Rattle.feeder.specs.Machine.{closing, Turn, Go, Stay, Take, Halt, inBlank, turn, step}
-use Rattle.feeder.specs.Feeding.{more, ready, refuse, Fed, fed, live, closed, dead, freshState, plus, stepped, feedFrom, feedOf, shut, closeOf}
-use Rattle.demands.specs.Events.{last, events}
-use Rattle.demands.specs.Driver.{after, driveBy, drive, joined}
-use Rattle.demands.proofs.Held.{again, over}
+use Rattle.feeder.specs.Machine.{closing, Turn, Go, Stay, Take, inBlank, turn, step}
+use Rattle.feeder.specs.Feeding.{more, ready, Fed, fed, live, dead, freshState, plus, stepped, feedFrom, feedOf, shut, closeOf}
+use Rattle.demands.proofs.Events.{last, events}
+use Rattle.demands.specs.Driver.{after, driveBy, drive, joined, CutAnywhere}
+use Rattle.demands.proofs.HeldTokens.{again, over}
 use Rattle.demands.proofs.Uncut.{uncut}
 
 -- what is still handed out from a state on
 abbrev still : Phase → ℕ → List ℕ → Stream
 still (Live m) p l = events m p l
-still Closed p l = stop fedAfterClose p
-still (Refused r) p l = stop (r .number) (r .place)
+still Closed p l = ends (refused fedAfterClose p)
+still (Refused r) p l = ends (refused (r .number) (r .place))
 
 abbrev from : State → List ℕ → Stream
 from s l = still (s .phase) (s .place) l
@@ -40,12 +41,12 @@ limited : (m : Mode) (p b : ℕ) → p < sourceLimit → step m p b ≡ turn m p
 unfolding step
 limited m p b h = rw (lt-leb sourceLimit p h) refl
 
-feed-on : (x : Turn) (p b : ℕ) (q r : List ℕ) → ((k : Mode) → events k (suc p) (q ++ r) ≡ Left (feedFrom k (suc p) q) q r)
+feed-on : (x : Result Turn) (p b : ℕ) (q r : List ℕ) → ((k : Mode) → events k (suc p) (q ++ r) ≡ Left (feedFrom k (suc p) q) q r)
     → over x p b (q ++ r) ≡ Left (stepped x p (λ k. feedFrom k (suc p) q)) (b ∷ q) r
-feed-on (Go k) p b q r ih = ih k
-feed-on (Stay t) p b q r ih = ap (then t) (again p b (q ++ r))
-feed-on (Take t) p b q r ih = refl
-feed-on (Halt n a) p b q r ih = refl
+feed-on (ok (Go k)) p b q r ih = ih k
+feed-on (ok (Stay t)) p b q r ih = ap (then t) (again p b (q ++ r))
+feed-on (ok (Take t)) p b q r ih = refl
+feed-on (refused n a) p b q r ih = refl
 
 -- one call, wherever its piece is cut off
 pub feed-law : (q r : List ℕ) (m : Mode) (p : ℕ) → p + length q ≤ sourceLimit → events m p (q ++ r) ≡ Left (feedFrom m p q) q r
@@ -75,18 +76,18 @@ held-most (Zero st minus) = omega arith
 held-most (Digits st minus r x) = omega arith
 
 -- only what is held is handed out without a byte
-Hands : ℕ → Turn → Type 0
-Hands h (Go m) = Unit {0}
-Hands h (Stay t) = 1 ≤ h
-Hands h (Take t) = Unit {0}
-Hands h (Halt n a) = Unit {0}
+Hands : ℕ → Result Turn → Type 0
+Hands h (ok (Go m)) = Unit {0}
+Hands h (ok (Stay t)) = 1 ≤ h
+Hands h (ok (Take t)) = Unit {0}
+Hands h (refused n a) = Unit {0}
 
-hands-held : (x : Turn) → Hands 1 x
+hands-held : (x : Result Turn) → Hands 1 x
 unfolding Hands
-hands-held (Go m) = tt
-hands-held (Stay t) = omega arith
-hands-held (Take t) = tt
-hands-held (Halt n a) = tt
+hands-held (ok (Go m)) = tt
+hands-held (ok (Stay t)) = omega arith
+hands-held (ok (Take t)) = tt
+hands-held (refused n a) = tt
 
 hands-blank : (c : Class) (p b : ℕ) → Hands 0 (inBlank c p b)
 unfolding Hands
@@ -115,22 +116,22 @@ hands (Digits st minus r x) p b = hands-held (turn (Digits st minus r x) p b)
 -- a call's bytes add up to the place e past its piece q; one that is not refused takes a byte or hands out what was held, so that
 -- `2 * bytes + held` falls from call to call
 data Fair (e h : ℕ) (q : List ℕ) : Fed → Type 0 where
-  goes : {k : Mode} {u p : ℕ} → p ≡ e → held k ≤ 2 * length q + h → Fair e h q (fed more u (live k p))
-  gives : {t : Token} {u p : ℕ} → p + length (drop u q) ≡ e → 2 * length (drop u q) < 2 * length q + h → Fair e h q (fed (ready t) u (live Blank p))
-  refuses : {n a u p : ℕ} → Fair e h q (fed (refuse n a) u (dead n a p))
+  goes : {k : Mode} {u p : ℕ} → p ≡ e → held k ≤ 2 * length q + h → Fair e h q (fed (ok more) u (live k p))
+  gives : {t : Token} {u p : ℕ} → p + length (drop u q) ≡ e → 2 * length (drop u q) < 2 * length q + h → Fair e h q (fed (ok (ready t)) u (live Blank p))
+  refuses : {n a u p : ℕ} → Fair e h q (fed (refused n a) u (dead n a p))
 
 fair-plus : (e h j b : ℕ) (q : List ℕ) (f : Fed) → j ≤ 1 → Fair e j q f → Fair e h (b ∷ q) (plus f)
 fair-plus e h j b q f l (goes {k = k} x y) = goes {k = k} x (omega arith)
 fair-plus e h j b q f l (gives {u = u} x y) = gives {u = suc u} x (omega arith)
 fair-plus e h j b q f l refuses = refuses
 
-fair-on : (x : Turn) (h p b : ℕ) (q : List ℕ) → Hands h x → ((k : Mode) → Fair (suc p + length q) (held k) q (feedFrom k (suc p) q))
+fair-on : (x : Result Turn) (h p b : ℕ) (q : List ℕ) → Hands h x → ((k : Mode) → Fair (suc p + length q) (held k) q (feedFrom k (suc p) q))
     → Fair (suc p + length q) h (b ∷ q) (stepped x p (λ k. feedFrom k (suc p) q))
 unfolding Hands
-fair-on (Go k) h p b q w ih = fair-plus (suc p + length q) h (held k) b q (feedFrom k (suc p) q) (held-most k) (ih k)
-fair-on (Stay t) h p b q w ih = gives {u = 0} {p = p} (omega arith) (omega arith)
-fair-on (Take t) h p b q w ih = gives {u = 1} {p = suc p} refl (omega arith)
-fair-on (Halt n a) h p b q w ih = refuses
+fair-on (ok (Go k)) h p b q w ih = fair-plus (suc p + length q) h (held k) b q (feedFrom k (suc p) q) (held-most k) (ih k)
+fair-on (ok (Stay t)) h p b q w ih = gives {u = 0} {p = p} (omega arith) (omega arith)
+fair-on (ok (Take t)) h p b q w ih = gives {u = 1} {p = suc p} refl (omega arith)
+fair-on (refused n a) h p b q w ih = refuses
 
 fair : (q : List ℕ) (m : Mode) (p : ℕ) → p + length q ≤ sourceLimit → Fair (p + length q) (held m) q (feedFrom m p q)
 unfolding feedFrom
@@ -143,10 +144,10 @@ fair (b ∷ q) m p h =
 abbrev pub callsAtMost : Mode → List (List ℕ) → ℕ
 callsAtMost m ps = held m + 2 * length (joined ps) + length ps + 1
 
-closes : (n p : ℕ) (a : Answer) → after (shut a p .reply) (stop 0 0) (drive (suc n) (shut a p .state) []) ≡ last a
+closes : (n p : ℕ) (a : Answer) → after (shut a p .reply) (ends (refused 0 0)) (drive (suc n) (shut a p .state) []) ≡ last a
 unfolding driveBy closeOf
-closes n p end = refl
-closes n p (is t) = refl
+closes n p (ok end) = refl
+closes n p (ok (is t)) = refl
 closes n p (refused k a) = refl
 
 -- the law of the calls that are left
@@ -174,7 +175,5 @@ driven (suc n) m p (q ∷ ps) l c =
 pub driven-fresh : (ps : List (List ℕ)) (n : ℕ) → length (joined ps) ≤ sourceLimit → 2 * length (joined ps) + length ps + 1 < n → drive n freshState ps ≡ events Blank 0 (joined ps)
 driven-fresh ps n l c = driven n Blank 0 ps (omega arith) (omega arith)
 
--- THEOREM cut-anywhere: a source of at most 1,048,576 bytes, cut anywhere, fed and then closed, yields the tokens, places and refusal of the
--- uncut source, in at most two calls a byte, one a piece, and two closes
-pub cut-anywhere : (s : List ℕ) (ps : List (List ℕ)) (n : ℕ) → joined ps ≡ s → length s ≤ sourceLimit → 2 * length s + length ps + 1 < n → drive n freshState ps ≡ tokensOf s
+pub cut-anywhere : CutAnywhere
 cut-anywhere s ps n e l c = driven-fresh ps n (rw e l) (rw e c) ∙ rw e (uncut s l (length s) 0 (omega arith) (omega arith))

@@ -1,0 +1,30 @@
+-- What is printed, cut anywhere, fed and closed, gives the tokens of what was printed: THEOREM print-then-feed.
+use mathlib.Core.Path.{_≡_}
+use mathlib.Core.List.{List}
+use Prim.Native.Nat.{ℕ, _+_, _*_, _≤_, _<_}
+use lib.ListN.{length, take}
+use Rattle.refusals.specs.Numbers.{sourceLimit, depthLimit}
+use Rattle.refusals.specs.Result.{ok}
+use Rattle.wide.specs.Bytes.{Bytes}
+use Rattle.lexer.specs.Streams.{ends}
+use Rattle.lexer.specs.BareTokens.{bareTokens}
+use Rattle.feeder.specs.Feeding.{freshState}
+use Rattle.table.specs.Trees.{Trees, treesTokens, Goods, recordsOf}
+use Rattle.printer.specs.Printing.{printing, printedInto}
+use Rattle.demands.specs.Driver.{drive, joined}
+
+-- the source o, cut anywhere, fed and closed, yields exactly the trees' tokens in order, then the end
+abbrev pub Yields : List ℕ → Trees → Type 0
+Yields o xs = (ps : List (List ℕ)) (n : ℕ) → joined ps ≡ o → 2 * length o + length ps + 1 < n → bareTokens o (drive n freshState ps) ≡ treesTokens xs (ends (ok tt))
+
+-- the table t holds good trees, and the text o yields their tokens
+pub record TextOf (t o : List ℕ) : Type 0 where
+  pub trees : Trees
+  pub good : Goods trees depthLimit
+  pub is : t ≡ recordsOf trees
+  pub yields : Yields o trees
+
+-- if a table is printed at a width, in m bytes of the lent buffer, and a source may be as long, then the table holds good trees, and these m
+-- bytes yield exactly their tokens
+abbrev pub PrintThenFeed : Type 0
+PrintThenFeed = (t : List ℕ) (w m : ℕ) (b : List ℕ) → Bytes t → printing t w (length b) ≡ ok m → m ≤ sourceLimit → TextOf t (take m (printedInto t w b))

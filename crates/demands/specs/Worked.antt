@@ -1,0 +1,80 @@
+-- Document 01, 'Worked by hand': every case marked P, as a single statement over one list: THEOREM worked.
+use mathlib.Core.Path.{_≡_}
+use Prim.Native.Nat.{ℕ, _-_, _^_}
+use mathlib.Core.List.{List, [], _∷_, map}
+use lib.IntN.{pos, negsuc}
+use lib.ListN.{take, replicate}
+use Rattle.refusals.specs.Result.{Result, ok, refused, andThen}
+use Rattle.lexer.specs.Tokens.{symbol, int, token}
+use Rattle.lexer.specs.Streams.{Stream, ends, then, tokensOf}
+use Rattle.reader.specs.Reading.{reading, readInto}
+use Rattle.printer.specs.Printing.{printing, printedInto}
+
+-- a source is lexed, or read into a room, or read and then printed at a width into a room
+pub data Run : Type 0 where
+  lexed : List ℕ → Run
+  read : List ℕ → Run
+  printed : List ℕ → ℕ → Run
+
+-- tokens and how they end; the bytes of a table or of a text, or the refusal
+pub data Outcome : Type 0 where
+  tokens : Stream → Outcome
+  bytes : Result (List ℕ) → Outcome
+
+abbrev room : List ℕ
+room = replicate 80 0
+
+-- the bytes that were reported, of the room as it is afterwards
+abbrev front : Result ℕ → List ℕ → Result (List ℕ)
+front r b = andThen r (λ n. ok (take n b))
+
+abbrev tabled : List ℕ → Result (List ℕ)
+tabled s = front (reading s 80) (readInto s room)
+
+-- a refused read prints nothing; a table that was read is printed by the contract's own definitions
+abbrev ran : Run → Outcome
+ran (lexed s) = tokens (tokensOf s)
+ran (read s) = bytes (tabled s)
+ran (printed s w) = bytes (andThen (tabled s) (λ t. front (printing t w 80) (printedInto t w room)))
+
+pub record Case : Type 0 where
+  pub run : Run
+  pub answer : Outcome
+
+abbrev case : Run → Outcome → Case
+case r a = record { run = r; answer = a }
+
+-- `(rule (a b) c)`
+abbrev rule : List ℕ
+rule = 40 ∷ 114 ∷ 117 ∷ 108 ∷ 101 ∷ 32 ∷ 40 ∷ 97 ∷ 32 ∷ 98 ∷ 41 ∷ 32 ∷ 99 ∷ 41 ∷ []
+
+unfoldable pub cases : List Case
+cases =
+    -- the empty source, `(;)`, `(;(;;);)x`
+    case (lexed []) (tokens (ends (ok tt)))
+    ∷ case (lexed (40 ∷ 59 ∷ 41 ∷ [])) (tokens (ends (refused 4 0)))
+    ∷ case (lexed (40 ∷ 59 ∷ 40 ∷ 59 ∷ 59 ∷ 41 ∷ 59 ∷ 41 ∷ 120 ∷ [])) (tokens (then (token symbol 8 1) (ends (ok tt))))
+    -- `12ab`, `-`, `12xyz`, `1_0-2`
+    ∷ case (lexed (49 ∷ 50 ∷ 97 ∷ 98 ∷ [])) (tokens (ends (refused 6 0)))
+    ∷ case (lexed (45 ∷ [])) (tokens (ends (refused 5 0)))
+    ∷ case (lexed (49 ∷ 50 ∷ 120 ∷ 121 ∷ 122 ∷ [])) (tokens (then (token (int (pos 12)) 0 2) (then (token symbol 2 3) (ends (ok tt)))))
+    ∷ case (lexed (49 ∷ 95 ∷ 48 ∷ 45 ∷ 50 ∷ [])) (tokens (then (token (int (pos 10)) 0 3) (then (token (int (negsuc 1)) 3 2) (ends (ok tt)))))
+    -- `0x8` and 31 zeros: -2^127; with `-` in front; `-0x` and 32 `f`
+    ∷ case (lexed (48 ∷ 120 ∷ 56 ∷ replicate 31 48)) (tokens (then (token (int (negsuc (2 ^ 127 - 1))) 0 34) (ends (ok tt))))
+    ∷ case (lexed (45 ∷ 48 ∷ 120 ∷ 56 ∷ replicate 31 48)) (tokens (ends (refused 8 0)))
+    ∷ case (lexed (45 ∷ 48 ∷ 120 ∷ replicate 32 102)) (tokens (then (token (int (pos 1)) 0 35) (ends (ok tt))))
+    -- `a`, form feed, `b`
+    ∷ case (lexed (97 ∷ 12 ∷ 98 ∷ [])) (tokens (then (token symbol 0 1) (ends (refused 3 1))))
+    -- `x @ (a)`, `x @ )`
+    ∷ case (read (120 ∷ 32 ∷ 64 ∷ 32 ∷ 40 ∷ 97 ∷ 41 ∷ []))
+    (bytes (ok (7 ∷ 0 ∷ 0 ∷ 0 ∷ 3 ∷ 0 ∷ 120 ∷ 10 ∷ 0 ∷ 0 ∷ 0 ∷ 4 ∷ 0 ∷ 1 ∷ 0 ∷ 0 ∷ 0 ∷ 7 ∷ 0 ∷ 0 ∷ 0 ∷ 1 ∷ 0 ∷ 97 ∷ [])))
+    ∷ case (read (120 ∷ 32 ∷ 64 ∷ 32 ∷ 41 ∷ [])) (bytes (refused 12 4))
+    -- `(rule (a b) c)` at width 14 and at 13; `()` at width 0
+    ∷ case (printed rule 14) (bytes (ok (40 ∷ 114 ∷ 117 ∷ 108 ∷ 101 ∷ 32 ∷ 40 ∷ 97 ∷ 32 ∷ 98 ∷ 41 ∷ 32 ∷ 99 ∷ 41 ∷ 10 ∷ [])))
+    ∷ case (printed rule 13)
+    (bytes (ok (40 ∷ 114 ∷ 117 ∷ 108 ∷ 101 ∷ 10 ∷ 32 ∷ 32 ∷ 32 ∷ 32 ∷ 40 ∷ 97 ∷ 32 ∷ 98 ∷ 41 ∷ 10 ∷ 32 ∷ 32 ∷ 32 ∷ 32 ∷ 99 ∷ 10 ∷ 41 ∷ 10 ∷ [])))
+    ∷ case (printed (40 ∷ 41 ∷ []) 0) (bytes (ok (40 ∷ 41 ∷ 10 ∷ [])))
+    ∷ []
+
+abbrev pub Worked : Type 0
+Worked = map (λ (c : Case). ran (c .run)) cases ≡ map (λ (c : Case). c .answer) cases
