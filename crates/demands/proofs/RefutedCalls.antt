@@ -1,14 +1,17 @@
--- For each public function of the feeder and the table two wrong answers that its promise rules out, on a given input, refuted by computation.
+-- For each public function of the feeder, of records and of the table two wrong answers that its promise rules out, on a given input, refuted by computation.
 use mathlib.Core.Path.{_≡_, ap}
 use mathlib.Core.Bool.{true, false}
 use mathlib.Core.List.{List, [], _∷_}
 use Prim.Native.Nat.{ℕ}
 use native.Mathlib.Omega.{arith}
+use lib.ListN.{replicate}
 use Rattle.refusals.specs.Numbers.{depthLimit}
 use Rattle.refusals.specs.Result.{ok, refused}
 use Rattle.classes.specs.Classes.{classOf}
-use Rattle.wide.specs.Bytes.{number}
-use Rattle.records.specs.Records.{headAt}
+use Rattle.lists.specs.Over.{fitted}
+use Rattle.wide.specs.Bytes.{le, number, numberIn}
+use Rattle.records.specs.declared.Head.the-variants.{Is}
+use Rattle.records.specs.Records.{headOf, record-of, headAt}
 use Rattle.lexer.specs.Tokens.{token, lparen, symbol}
 use Rattle.feeder.specs.declared.State.{State}
 use Rattle.feeder.specs.declared.Mode.the-variants.{Blank, Symbol as InSymbol}
@@ -53,6 +56,42 @@ close-drops e = let r = ap (λ (f : Fed). f .reply) e in let z : _≡_ {A = ℕ}
 close-again : Not (fed (refused 19 5) 0 (closed 5) ≡ closeOf (closed 5))
 unfolding closeOf
 close-again e = let r = ap (λ (f : Fed). f .reply) e in let z : _≡_ {A = ℕ} 0 1 = cc r in omega arith
+
+-- records::len_at, kind_at: the one for the other
+len-kind : Not (1 ≡ numberIn 4 (7 ∷ 0 ∷ 0 ∷ 0 ∷ 1 ∷ 0 ∷ 97 ∷ []) 0)
+unfolding number
+len-kind e = omega arith
+
+kind-len : Not (7 ≡ numberIn 2 (7 ∷ 0 ∷ 0 ∷ 0 ∷ 1 ∷ 0 ∷ 97 ∷ []) 4)
+unfolding number
+kind-len e = omega arith
+
+-- records::head_at: a length past the end; one below a head's
+head-past : Not (Is 1 7 ≡ headAt (7 ∷ 0 ∷ 0 ∷ 0 ∷ 1 ∷ 0 ∷ []) 0)
+unfolding headAt number
+head-past e = let z : _≡_ {A = ℕ} 0 1 = cc in omega arith
+
+head-below : Not (Is 1 5 ≡ headAt (5 ∷ 0 ∷ 0 ∷ 0 ∷ 1 ∷ 0 ∷ []) 0)
+unfolding headAt number
+head-below e = let z : _≡_ {A = ℕ} 0 1 = cc in omega arith
+
+-- records::put_head: the kind first; bytes written where the room is too short
+put-order : Not (1 ∷ 0 ∷ 6 ∷ 0 ∷ 0 ∷ 0 ∷ [] ≡ fitted (headOf 1 6) (replicate 6 9))
+unfolding le
+put-order e = let z : _≡_ {A = ℕ} 1 6 = cc in omega arith
+
+put-short : Not (6 ∷ 0 ∷ 0 ∷ 0 ∷ [] ≡ fitted (headOf 1 6) (replicate 4 9))
+unfolding le
+put-short e = let z : _≡_ {A = ℕ} 6 9 = cc in omega arith
+
+-- records::put: the payload's length for the record's; nothing written
+put-payload : Not (1 ∷ 0 ∷ 0 ∷ 0 ∷ 1 ∷ 0 ∷ 97 ∷ [] ≡ fitted (record-of 1 (97 ∷ [])) (replicate 7 9))
+unfolding record-of le
+put-payload e = let z : _≡_ {A = ℕ} 1 7 = cc in omega arith
+
+put-none : Not (replicate 7 9 ≡ fitted (record-of 1 (97 ∷ [])) (replicate 7 9))
+unfolding record-of le
+put-none e = let z : _≡_ {A = ℕ} 9 7 = cc in omega arith
 
 -- table::record_at: an empty symbol is bad; a length past the end is let through
 record-empty : Not (Bad 15 ≡ recordAt (6 ∷ 0 ∷ 0 ∷ 0 ∷ 1 ∷ 0 ∷ []) 0)

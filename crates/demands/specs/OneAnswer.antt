@@ -36,6 +36,8 @@ use Rattle.feeder.specs.declared.Answer.the-variants as answer
 use Rattle.feeder.specs.declared.Out.{Out}
 use Rattle.feeder.specs.declared.Fed.{Fed}
 use Rattle.feeder.specs.Feeding.{freshState, feedOf, closeOf, fedOf}
+use Rattle.records.specs.declared.Head.{Head}
+use Rattle.records.specs.Records.{headOf, headAt, record-of}
 use Rattle.table.specs.declared.Checked.{Checked}
 use Rattle.table.specs.Trees.{isSymbol}
 use Rattle.table.specs.declared.Record.{Record}
@@ -131,6 +133,11 @@ pub record OneAnswer : Type 0 where
   pub feeder-lent·close-in : (s : State) → BothHeld Out State OutFits (λ r exit. fedOf (record { out = r; state = exit }) ≡ closeOf s)
   pub feeder-lent·feed-through : (s : State) (piece : List ℕ) → OneHeld Fed FedFits (λ r. fedOf r ≡ feedOf s piece)
   pub feeder-lent·close-through : (s : State) → OneHeld Fed FedFits (λ r. fedOf r ≡ closeOf s)
+  pub records·len-at : (t : List ℕ) (at : ℕ) → One ℕ (λ r. r ≡ numberIn 4 t at)
+  pub records·kind-at : (t : List ℕ) (at : ℕ) → One ℕ (λ r. r ≡ numberIn 2 t (at + 4))
+  pub records·head-at : (t : List ℕ) (at : ℕ) → One Head (λ r. r ≡ headAt t at)
+  pub records·put-head : (kind len : ℕ) (out : List ℕ) → One (List ℕ) (λ exit. exit ≡ fitted (headOf kind len) out)
+  pub records·put : (kind : ℕ) (payload out : List ℕ) → One (List ℕ) (λ exit. exit ≡ fitted (record-of kind payload) out)
   pub table·record-at : (t : List ℕ) (at : ℕ) → One Record (λ r. r ≡ recordAt t at)
   pub table·is-symbol : (s : List ℕ) → One Bool (λ r. r ≡ isSymbol s)
   pub table·step-at : (t : List ℕ) (at : ℕ) (deeper printing : Bool) → One Step (λ r. r ≡ stepAt t printing at deeper)
