@@ -172,9 +172,9 @@ unfolding feedOf feedFrom step
 limit-of m p b q h = rw (le-leb sourceLimit p h) refl
 
 -- below it a byte does what the machine says
-below : (m : Mode) (p b : ℕ) (q : List ℕ) (x : Result Turn) → p < sourceLimit → turn m p b ≡ x → feedOf (live m p) (b ∷ q) ≡ stepped x p (λ k. feedFrom k (suc p) q)
+byte-does : (m : Mode) (p b : ℕ) (q : List ℕ) (x : Result Turn) → p < sourceLimit → turn m p b ≡ x → feedOf (live m p) (b ∷ q) ≡ stepped x p (λ k. feedFrom k (suc p) q)
 unfolding feedOf feedFrom step
-below m p b q x h e = rw (lt-leb sourceLimit p h, e) refl
+byte-does m p b q x h e = rw (lt-leb sourceLimit p h, e) refl
 
 -- reached states
 consumed-of : (n : ℕ) (s : State) → Reached n s → s .place ≡ n
@@ -235,14 +235,14 @@ calls = record {
   close-comment = λ st d p h. refl;
   close-blank = λ p. refl;
   close-line = λ p. refl;
-  rparen-at-once = λ p q h. below Blank p 41 q _ h refl;
-  at-sign-at-once = λ p q h. below Blank p 64 q _ h refl;
-  lparen-waits = λ p h. unfold feedFrom in below Blank p 40 [] _ h refl;
-  symbol-waits = λ st p b h e. unfold feedFrom in below (Symbol st) p b [] (ok (Go (Symbol st))) h (rw e refl);
-  literal-waits = λ st p b r minus x h e. unfold feedFrom in below (Digits st minus r x) p b [] (ok (Go (Digits st minus r (grow r x b)))) h (rw e refl);
+  rparen-at-once = λ p q h. byte-does Blank p 41 q _ h refl;
+  at-sign-at-once = λ p q h. byte-does Blank p 64 q _ h refl;
+  lparen-waits = λ p h. unfold feedFrom in byte-does Blank p 40 [] _ h refl;
+  symbol-waits = λ st p b h e. unfold feedFrom in byte-does (Symbol st) p b [] (ok (Go (Symbol st))) h (rw e refl);
+  literal-waits = λ st p b r minus x h e. unfold feedFrom in byte-does (Digits st minus r x) p b [] (ok (Go (Digits st minus r (grow r x b)))) h (rw e refl);
   limit = λ m p b q h. limit-of m p b q h;
-  last-rparen = λ q. below Blank 1048575 41 q _ (omega arith) refl;
-  last-at-sign = λ q. below Blank 1048575 64 q _ (omega arith) refl;
+  last-rparen = λ q. byte-does Blank 1048575 41 q _ (omega arith) refl;
+  last-at-sign = λ q. byte-does Blank 1048575 64 q _ (omega arith) refl;
   consumed = λ n s r. (consumed-of n s r, omega (arith, reached-sound n s r .bound, consumed-of n s r));
   empty = λ n s o. empty-in (s .phase) (s .place) (open-live n s o);
   token-end = λ n s q t r e.

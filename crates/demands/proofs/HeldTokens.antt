@@ -1,14 +1,14 @@
 -- The machine while it holds a symbol or a literal: it hands out what uncut lexing reads from the same place. Assumes nothing.
 use mathlib.Core.Path.{_≡_, refl, sym, ap, _∙_}
 use mathlib.Core.List.{List, [], _∷_}
-use mathlib.Core.Bool.{Bool, true, false, cond, _&&_, _||_}
+use mathlib.Core.Bool.{Bool, true, false, cond}
 use Prim.Native.Nat.{ℕ, suc, _+_, _-_, _≤_, _<_}
 use native.Mathlib.Omega.{arith}
-use lib.Dec.{eqb, leb}
+use lib.Dec.{eqb}
 use lib.ListN.{drop, length, length-drop}
-use borrow.Author.Tests.{eqb-true, leb-true, le-leb}
+use borrow.Author.Tests.{eqb-true}
 use Rattle.lists.proofs.Places.{next as next-place}
-use Rattle.lists.proofs.Choice.{pick, and-right, or-right, true-false}
+use Rattle.lists.proofs.Choice.{true-false}
 use Rattle.refusals.specs.Numbers.{noDigits}
 use Rattle.refusals.specs.Result.{Result, ok, refused}
 use Rattle.classes.specs.declared.Class.{Class}
@@ -95,8 +95,8 @@ module _ (s : List ℕ) (p : ℕ) where
   lasts (ok (is t)) h e =
       (omega arith, omega (arith, e .bound), ap (then t) (ap (events Blank p) (sym (e .left)) ∙ ap (λ (q : ℕ). events Blank q (drop q s)) (sym h)))
 
-pub whole : (st p : ℕ) → st ≤ p → st + (p - st) ≡ p
-whole st p h = omega arith
+pub from-start : (st p : ℕ) → st ≤ p → st + (p - st) ≡ p
+from-start st p h = omega arith
 
 -- the law of a mode, at every place where l is left
 abbrev Law : List ℕ → ℕ → Mode → List ℕ → (ℕ → Answer) → Type 0
@@ -111,40 +111,18 @@ module _ (s : List ℕ) (st : ℕ) where
       → After s p (ok (is (token symbol st (cond t (symbolEnd l (suc p)) p - st)))) (over (cond t (ok (Go (Symbol st))) (ok (Stay (token symbol st (p - st))))) p b l)
   unfolding Ends
   symbol-on true b l p h e ih = weaken s p (symbolAt l (suc p)) _ (ih (suc p) (omega arith) (next s p b l e))
-  symbol-on false b l p h e ih = stays s p (ok (is (token symbol st (p - st)))) b l (whole st p h) e
+  symbol-on false b l p h e ih = stays s p (ok (is (token symbol st (p - st)))) b l (from-start st p h) e
 
   pub in-symbol : (l : List ℕ) → Law s st (Symbol st) l (symbolAt l)
   unfolding events turn closing symbolEnd Ends
-  in-symbol [] p h e = lasts s p (ok (is (token symbol st (p - st)))) (whole st p h) e
+  in-symbol [] p h e = lasts s p (ok (is (token symbol st (p - st)))) (from-start st p h) e
   in-symbol (b ∷ l) p h e = symbol-on (symbolOther (classOf b)) b l p h e (in-symbol l)
-
--- a digit is a byte of a literal
-decimal-literal : (b : ℕ) → (leb 48 b && leb b 57) ≡ true → literalByte b ≡ true
-unfolding literalByte digitOf
-decimal-literal b e =
-    let h : b ≤ 57 = leb-true b 57 (and-right (leb 48 b) (leb b 57) e) in
-    let k : leb (b - 48) 15 ≡ true = le-leb (b - 48) 15 (omega arith) in
-    rw (e, k) (or-right (eqb b 95))
-
-pub digit-literal : (b : ℕ) → classOf b ≡ Digit → literalByte b ≡ true
-unfolding classOf
-digit-literal b =
-    let P : Class → Type 0 = λ c. c ≡ Digit → literalByte b ≡ true in
-    pick P (eqb b 32 || eqb b 9) (λ _ f. cc)
-    (λ _. pick P (eqb b 10 || eqb b 13) (λ _ f. cc)
-    (λ _. pick P (eqb b 59) (λ _ f. cc)
-    (λ _. pick P (eqb b 40) (λ _ f. cc)
-    (λ _. pick P (eqb b 41) (λ _ f. cc)
-    (λ _. pick P (eqb b 64) (λ _ f. cc)
-    (λ _. pick P (eqb b 12) (λ _ f. cc)
-    (λ _. pick P (eqb b 45) (λ _ f. cc)
-    (λ _. pick P (leb 48 b && leb b 57) (λ e f. decimal-literal b e) (λ _ f. cc)))))))))
 
 -- literals
 module _ (s : List ℕ) (st : ℕ) (minus : Bool) where
   signed-ends : (p : ℕ) (z : Integer) → st ≤ p → Ends p (signed st p z)
   unfolding Ends
-  signed-ends p (isInteger z) h = whole st p h
+  signed-ends p (isInteger z) h = from-start st p h
   signed-ends p noInteger h = tt
 
   pub concluded-ends : (p : ℕ) (x : Reading) → st ≤ p → Ends p (concluded minus st p x)

@@ -16,6 +16,7 @@ use Rattle.classes.specs.declared.Class.the-variants.{Digit}
 use Rattle.classes.specs.Classes.{classOf, semicolon, digitOf, literalByte}
 use Rattle.wide.specs.Value.{val, split, grown, is as isInteger, integerOf}
 use Rattle.wide.specs.Text.{digits, digitsOf, integerText}
+use Rattle.wide.proofs.TwoLimbs.{split-val}
 use Rattle.lexer.specs.declared.literal.Reading.{Reading}
 use Rattle.lexer.specs.declared.literal.Reading.the-variants.{Empty, Number}
 use Rattle.lexer.specs.Tokens.{token, is, int}
@@ -81,11 +82,6 @@ record Spells (n : ℕ) (ds : List ℕ) : Type 0 where
 tenth : (N n : ℕ) → n < N → n / 10 < N
 tenth N n h = omega arith
 
--- the two limbs of a number, put together again
-val-split : (n : ℕ) → val (split n) ≡ n
-unfolding val
-val-split n = div-add-mod' n (2 ^ 64)
-
 spells-one : (n : ℕ) → n < 10 → Spells n ((48 + n) ∷ [])
 unfolding taken grown
 spells-one n h =
@@ -106,7 +102,7 @@ spells-more n ds l s =
           grows-last Empty ds (48 + n % 10)
           ∙ ap (λ (x : Reading). grow 10 x (48 + n % 10)) (s .counts)
           ∙ grow-is (Number (split (n / 10))) (n % 10) h
-          ∙ ap (λ (m : ℕ). taken 10 m (n % 10)) (val-split (n / 10))
+          ∙ ap (λ (m : ℕ). taken 10 m (n % 10)) (split-val (n / 10))
           ∙ taken-is (n / 10) (n % 10) h (subst (λ (x : ℕ). x < 2 ^ 128) (sym e) l)
           ∙ ap (λ (m : ℕ). Number (split m)) e;
     }
@@ -151,7 +147,7 @@ module _ (c : ℕ) (r : List ℕ) (e : literalByte c ≡ false) (f : radixOf 48 
   unfolding unsignedIn concluded
   unsigned minus st p n [] s = absurd (omega (arith, s .some))
   unsigned minus st p n (b ∷ ds) s =
-      rw (second b ds (s .all .1), end-all (b ∷ ds) p (s .all), read-all (b ∷ ds) Empty (s .all), s .counts, val-split n) refl
+      rw (second b ds (s .all .1), end-all (b ∷ ds) p (s .all), read-all (b ∷ ds) Empty (s .all), s .counts, split-val n) refl
 
   leads : (n p : ℕ) (ds : List ℕ) → Spells n ds → lexIn 0 Between (ds ++ (c ∷ r)) p ≡ unsignedIn false p (ds ++ (c ∷ r)) p
   unfolding lexIn skip
@@ -162,8 +158,8 @@ minus-leads : (p : ℕ) (l : List ℕ) → lexIn 0 Between (45 ∷ l) p ≡ unsi
 unfolding lexIn skip classOf
 minus-leads p l = refl
 
-below : (N n : ℕ) → suc n < N → n < N
-below N n h = omega arith
+smaller : (N n : ℕ) → suc n < N → n < N
+smaller N n h = omega arith
 
 differs : (N n : ℕ) → n < N → n ≡ N → ⊥
 differs N n h e = omega arith
@@ -185,7 +181,7 @@ negative : (n : ℕ) → suc n < 2 ^ 127 → integerOf true (suc n) ≡ isIntege
 unfolding integerOf
 negative n h =
     rw (ne-eqb (suc n) (2 ^ 127) (differs (2 ^ 127) (suc n) h), mod-eq-of-lt (less (2 ^ 128) n (lit< tt)))
-    (ap isInteger (toZ-neg w128 n (below (2 ^ 127) n h)))
+    (ap isInteger (toZ-neg w128 n (smaller (2 ^ 127) n h)))
 
 -- an integer's decimals, before a byte that ends a literal and names no radix, are its token; -2^127 has none
 pub spelt : (c : ℕ) (r : List ℕ) → literalByte c ≡ false → radixOf 48 c ≡ 10 → (z : ℤ) (p : ℕ) → natAbs z < 2 ^ 127

@@ -60,9 +60,9 @@ cases =
     ∷ case (more (integer (pos 16)) (more (integer (negsuc 6)) none)) 100 7 (49 ∷ 54 ∷ 10 ∷ 10 ∷ 45 ∷ 55 ∷ 10 ∷ [])
     ∷ []
 
-pub worked : map (λ (c : Case). page (c .trees) (c .width)) cases ≡ map (λ (c : Case). c .text) cases
+pub pages : map (λ (c : Case). page (c .trees) (c .width)) cases ≡ map (λ (c : Case). c .text) cases
 unfolding cases cost lay pageFrom integerText digits
-worked = refl
+pages = refl
 
 pub sizes : map (λ (c : Case). length (page (c .trees) (c .width))) cases ≡ map (λ (c : Case). c .size) cases
 unfolding cases cost lay pageFrom integerText digits

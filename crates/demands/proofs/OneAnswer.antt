@@ -45,8 +45,8 @@ seen v same d a b e f = same a b (e ∙ sym f)
 seen-both : {A B C : Type 0} (v : A → B) → ((a b : A) → v a ≡ v b → a ≡ b) → (d : B) (o : C) → Both A C (λ r m. (v r ≡ d) × (m ≡ o))
 seen-both v same d o a b m n e f = (same a b (e .0 ∙ sym (f .0)), e .1 ∙ sym (f .1))
 
-held : {A B : Type 0} (H : A → Type 0) (v : A → B) → ((a b : A) → H a → H b → v a ≡ v b → a ≡ b) → (d : B) → OneHeld A H (λ r. v r ≡ d)
-held H v same d a b h k e f = same a b h k (e ∙ sym f)
+seen-held : {A B : Type 0} (H : A → Type 0) (v : A → B) → ((a b : A) → H a → H b → v a ≡ v b → a ≡ b) → (d : B) → OneHeld A H (λ r. v r ≡ d)
+seen-held H v same d a b h k e f = same a b h k (e ∙ sym f)
 
 -- ---- the views tell results apart that the machine can hold
 
@@ -185,7 +185,7 @@ one-answer = record {
   classes·is-literal-byte = λ b. one _;
   wide·as-unsigned = λ z. one _;
   wide·negative = λ w. one _;
-  wide·with-sign = λ n minus. held SignedFits signedOf signed-same _;
+  wide·with-sign = λ n minus. seen-held SignedFits signedOf signed-same _;
   wide·grow = λ n radix digit. one _;
   wide·text-len = λ w. one _;
   wide·put-text = λ w out. both _ _;
@@ -194,19 +194,19 @@ one-answer = record {
   wide·put-wide = λ w out. one _;
   wide·u16-at = λ t at. one _;
   wide·u32-at = λ t at. one _;
-  wide·wide-at = λ t at. held WideFits value value-same _;
+  wide·wide-at = λ t at. seen-held WideFits value value-same _;
   lexer·literal·grow = λ radix x b. one _;
   lexer·literal·digits-from = λ src at radix. digits-same _ _;
   lexer·literal·radix-of = λ b c. one _;
-  lexer·literal·concluded = λ minus start end x. held LexedFits answerOf answer-same _;
-  lexer·next-token = λ src at. held LexedFits answerOf answer-same _;
+  lexer·literal·concluded = λ minus start end x. seen-held LexedFits answerOf answer-same _;
+  lexer·next-token = λ src at. seen-held LexedFits answerOf answer-same _;
   feeder·fresh = one _;
-  feeder·feed = λ s piece. held FedFits fedOf fed-same _;
-  feeder·close = λ s. held FedFits fedOf fed-same _;
+  feeder·feed = λ s piece. seen-held FedFits fedOf fed-same _;
+  feeder·close = λ s. seen-held FedFits fedOf fed-same _;
   feeder-lent·feed-in = λ s piece. fed-lent _;
   feeder-lent·close-in = λ s. fed-lent _;
-  feeder-lent·feed-through = λ s piece. held FedFits fedOf fed-same _;
-  feeder-lent·close-through = λ s. held FedFits fedOf fed-same _;
+  feeder-lent·feed-through = λ s piece. seen-held FedFits fedOf fed-same _;
+  feeder-lent·close-through = λ s. seen-held FedFits fedOf fed-same _;
   records·len-at = λ t at. one _;
   records·kind-at = λ t at. one _;
   records·head-at = λ t at. one _;

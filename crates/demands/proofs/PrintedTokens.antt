@@ -13,7 +13,7 @@ use Rattle.table.specs.Trees.{Tree, Trees, symbol, integer, binding, list, none
 use Rattle.printer.specs.Layout.{Wrapping, Wrap, SingleLine, bytes, column, gap, inner, back, wrapped, named, lay, items, pageFrom, page}
 use Rattle.lists.proofs.Choice.{true-false}
 use Rattle.demands.proofs.IntegerTokens.{starts}
-use Rattle.demands.proofs.RestTokens.{Sep, space, line, close, Clear, first-byte, Gives, gives-end, gives-symbol, gives-integer, gives-open, gives-close, gives-at, gives-space, gives-line, gives-spaces, whole}
+use Rattle.demands.proofs.RestTokens.{Sep, space, line, close, Clear, first-byte, Gives, gives-end, gives-symbol, gives-integer, gives-open, gives-close, gives-at, gives-space, gives-line, gives-spaces, source-gives}
 use Rattle.demands.proofs.Spellable.{Spellable, Spellables, magnitude}
 
 regroup : (a b c r : List ℕ) → a ++ (b ++ (c ++ r)) ≡ (a ++ (b ++ c)) ++ r
@@ -99,4 +99,4 @@ module _ (s : List ℕ) (limit : length s ≤ sourceLimit) where
 
 -- THEOREM printed: the text of trees at any width, if a source may be as long, has exactly the trees' tokens in order, then the end
 pub printed : (xs : Trees) (w : ℕ) → Spellables xs → length (page xs w) ≤ sourceLimit → bareTokens (page xs w) (tokensOf (page xs w)) ≡ treesTokens xs (ends (ok tt))
-printed xs w h l = whole (page xs w) (treesTokens xs (ends (ok tt))) (gives-page (page xs w) l false xs w h)
+printed xs w h l = source-gives (page xs w) (treesTokens xs (ends (ok tt))) (gives-page (page xs w) l false xs w h)

@@ -28,7 +28,7 @@ use Rattle.feeder.specs.declared.State.{State}
 use Rattle.feeder.specs.Machine.{closing, Turn, Go, Stay, Take, endedBy, begun, out, deeper, inBlank, inBlock, inDigits, turn, step}
 use Rattle.feeder.specs.Feeding.{Reply, more, finish, ready, Fed, stepped, feedFrom, feedIn, feedOf, shut, closeIn, closeOf}
 use Rattle.demands.specs.Rules.{Reached, fresh, feeds, closes}
-use Rattle.demands.proofs.HeldTokens.{Ends, whole, concluded-ends}
+use Rattle.demands.proofs.HeldTokens.{Ends, from-start, concluded-ends}
 
 abbrev pub Sound : Mode → ℕ → Type 0
 Sound Blank p = Unit {0}
@@ -91,7 +91,7 @@ unfolding turn Leaves
 leaves Blank p b s = leaves-blank (classOf b) p b
 leaves Line p b s = pick (λ k. Sound k (suc p)) (lineEnd (classOf b)) (λ _. tt) (λ _. tt)
 leaves (Opener st) p b s = pick (Leaves p) (semicolon (classOf b)) (λ _. (omega arith, omega arith, omega arith)) (λ _. s)
-leaves (Symbol st) p b s = pick (Leaves p) (symbolOther (classOf b)) (λ _. omega arith) (λ _. whole st p (omega arith))
+leaves (Symbol st) p b s = pick (Leaves p) (symbolOther (classOf b)) (λ _. omega arith) (λ _. from-start st p (omega arith))
 leaves (Sign st) p b s = pick (Leaves p) (literalByte b) (λ _. leaves-begun st p b true (omega arith)) (λ _. leaves-ends p (concluded true st p Empty) (concluded-ends [] st true p Empty (omega arith)))
 leaves (Block st d h) p b s = leaves-block (classOf b) st d p h s
 leaves (Zero st minus) p b s =
@@ -115,12 +115,12 @@ pub record SoundFed (f : Fed) : Type 0 where
   pub bound : f .state .place ≤ sourceLimit
   pub token-at : TokenAt (f .reply) (f .state .place)
 
-fed-on : (x : Result Turn) (p : ℕ) (q : List ℕ) → p < sourceLimit → Leaves p x → ((k : Mode) → Sound k (suc p) → SoundFed (feedFrom k (suc p) q)) → SoundFed (stepped x p (λ k. feedFrom k (suc p) q))
+sound-on : (x : Result Turn) (p : ℕ) (q : List ℕ) → p < sourceLimit → Leaves p x → ((k : Mode) → Sound k (suc p) → SoundFed (feedFrom k (suc p) q)) → SoundFed (stepped x p (λ k. feedFrom k (suc p) q))
 unfolding Leaves
-fed-on (ok (Go k)) p q l h ih = let g = ih k h in record { phase-is = g .phase-is; bound = g .bound; token-at = g .token-at }
-fed-on (ok (Stay t)) p q l h ih = record { phase-is = tt; bound = omega arith; token-at = h }
-fed-on (ok (Take t)) p q l h ih = record { phase-is = tt; bound = omega arith; token-at = h }
-fed-on (refused n a) p q l h ih = record { phase-is = tt; bound = omega arith; token-at = tt }
+sound-on (ok (Go k)) p q l h ih = let g = ih k h in record { phase-is = g .phase-is; bound = g .bound; token-at = g .token-at }
+sound-on (ok (Stay t)) p q l h ih = record { phase-is = tt; bound = omega arith; token-at = h }
+sound-on (ok (Take t)) p q l h ih = record { phase-is = tt; bound = omega arith; token-at = h }
+sound-on (refused n a) p q l h ih = record { phase-is = tt; bound = omega arith; token-at = tt }
 
 fed-from : (q : List ℕ) (m : Mode) (p : ℕ) → Sound m p → p ≤ sourceLimit → SoundFed (feedFrom m p q)
 unfolding feedFrom step
@@ -128,7 +128,7 @@ fed-from [] m p s l = record { phase-is = s; bound = l; token-at = tt }
 fed-from (b ∷ q) m p s l =
     pick (λ (x : Result Turn). SoundFed (stepped x p (λ k. feedFrom k (suc p) q))) (leb sourceLimit p)
     (λ _. record { phase-is = tt; bound = l; token-at = tt })
-    (λ e. fed-on (turn m p b) p q (leb-false sourceLimit p e) (leaves m p b s) (λ k h. fed-from q k (suc p) h (omega (arith, leb-false sourceLimit p e))))
+    (λ e. sound-on (turn m p b) p q (leb-false sourceLimit p e) (leaves m p b s) (λ k h. fed-from q k (suc p) h (omega (arith, leb-false sourceLimit p e))))
 
 pub fed-sound : (h : Phase) (p : ℕ) (q : List ℕ) → SoundIn h p → p ≤ sourceLimit → SoundFed (feedIn h p q)
 fed-sound (Live m) p q s l = fed-from q m p s l
@@ -151,7 +151,7 @@ unfolding closing
 closing-ends Blank p s = tt
 closing-ends Line p s = tt
 closing-ends (Opener st) p s = s
-closing-ends (Symbol st) p s = whole st p (omega arith)
+closing-ends (Symbol st) p s = from-start st p (omega arith)
 closing-ends (Sign st) p s = ended p _ (concluded-ends [] st true p Empty (omega arith))
 closing-ends (Block st d h) p s = tt
 closing-ends (Zero st minus) p s = ended p _ (concluded-ends [] st minus p (Number (split 0)) (omega arith))

@@ -25,10 +25,10 @@ use Rattle.lexer.specs.Tokens.{Answer, end, is, token, int, symbol}
 use Rattle.lexer.specs.Literals.{taken, grow, reading, literalEnd, radixOf, concluded, unsignedIn}
 use Rattle.lexer.specs.Lexing.{skip, symbolEnd, lexIn, nextToken}
 
-abbrev Not : Type 0 → Type 0
+abbrev pub Not : Type 0 → Type 0
 Not P = P → ⊥
 
-abbrev wide : ℤ → ℕ → Wide
+abbrev pub wide : ℤ → ℕ → Wide
 wide h l = record { hi = h; lo = l }
 
 abbrev highOf : Grown → ℕ

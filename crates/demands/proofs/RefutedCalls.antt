@@ -23,13 +23,11 @@ use Rattle.table.specs.Past.{pastSymbol, pastOf}
 use Rattle.table.specs.Trees.{runsOn, isSymbol}
 use Rattle.table.specs.Records.{recordAt}
 use Rattle.table.specs.Decoding.{itemsAt, stepAt, treeAt, treesAt, tableOf, judged}
-
-abbrev Not : Type 0 → Type 0
-Not P = P → ⊥
+use Rattle.demands.proofs.Refuted.{Not}
 
 -- feeder::fresh: a byte was consumed
-fresh-place : Not (live Blank 1 ≡ freshState)
-fresh-place e = let z : _≡_ {A = ℕ} 1 0 = ap (λ (s : State). s .place) e in omega arith
+fresh-consumed : Not (live Blank 1 ≡ freshState)
+fresh-consumed e = let z : _≡_ {A = ℕ} 1 0 = ap (λ (s : State). s .place) e in omega arith
 
 -- feeder::feed: `(` handed out before its next byte; `)` kept back; a form feed consumed; fed after a close
 feed-early : Not (fed (ok (ready (token lparen 0 1))) 1 (live Blank 1) ≡ feedOf freshState (40 ∷ []))
@@ -49,9 +47,9 @@ unfolding feedOf
 feed-closed e = let r = ap (λ (f : Fed). f .reply) e in let z : _≡_ {A = ℕ} 0 1 = cc r in omega arith
 
 -- feeder::close: the held token is dropped; a closed state is refused
-close-drops : Not (fed (ok finish) 0 (closed 1) ≡ closeOf (live (InSymbol 0) 1))
+close-token : Not (fed (ok finish) 0 (closed 1) ≡ closeOf (live (InSymbol 0) 1))
 unfolding closeOf closing
-close-drops e = let r = ap (λ (f : Fed). f .reply) e in let z : _≡_ {A = ℕ} 0 1 = cc r in omega arith
+close-token e = let r = ap (λ (f : Fed). f .reply) e in let z : _≡_ {A = ℕ} 0 1 = cc r in omega arith
 
 close-again : Not (fed (refused 19 5) 0 (closed 5) ≡ closeOf (closed 5))
 unfolding closeOf

@@ -12,9 +12,9 @@ use Rattle.refusals.specs.Numbers.{sourceLimit}
 use Rattle.refusals.specs.Result.{ok}
 use Rattle.lists.proofs.Places.{past as drop-past}
 use Rattle.lists.proofs.Choice.{and-left, and-right, true-false}
-use Rattle.classes.specs.declared.Class.{Class}
-use Rattle.classes.specs.declared.Class.the-variants.{Space, LineEnd, Semicolon, LParen, RParen, AtSign, FormFeed, Minus, Digit, Other}
+use Rattle.classes.specs.declared.Class.the-variants.{Other}
 use Rattle.classes.specs.Classes.{classOf, semicolon, symbolFirst, symbolOther, digitOf, literalByte}
+use Rattle.classes.proofs.Firsts.{first-other}
 use Rattle.wide.specs.Text.{integerText}
 use Rattle.lexer.specs.Tokens.{Kind, lparen, rparen, at-sign as at-token, symbol, int, token, Answer, is}
 use Rattle.lexer.specs.Literals.{radixOf}
@@ -37,21 +37,9 @@ Clear l = semicolon (classOf (getD l 0 0)) ≡ false
 
 -- ---- one token, by the uncut rules
 
-other : (c : Class) → symbolFirst c ≡ true → c ≡ Other
-other Space e = true-false (sym e)
-other LineEnd e = true-false (sym e)
-other Semicolon e = true-false (sym e)
-other LParen e = true-false (sym e)
-other RParen e = true-false (sym e)
-other AtSign e = true-false (sym e)
-other FormFeed e = true-false (sym e)
-other Minus e = true-false (sym e)
-other Digit e = true-false (sym e)
-other Other e = refl
-
 pub first-byte : (b : ℕ) (n : List ℕ) → isSymbol (b ∷ n) ≡ true → classOf b ≡ Other
 unfolding isSymbol
-first-byte b n h = other (classOf b) (and-left (symbolFirst (classOf b)) (runsOn n) h)
+first-byte b n h = first-other (classOf b) (and-left (symbolFirst (classOf b)) (runsOn n) h)
 
 symbol-run : (n r : List ℕ) (p : ℕ) → runsOn n ≡ true → Sep r → symbolEnd (n ++ r) p ≡ p + length n
 unfolding symbolEnd classOf runsOn
@@ -87,13 +75,13 @@ at-token-is : (l : List ℕ) (p : ℕ) → lexIn 0 Between (64 ∷ l) p ≡ ok (
 unfolding lexIn skip classOf
 at-token-is l p = refl
 
-space-on : (l : List ℕ) (p : ℕ) → lexIn 0 Between (32 ∷ l) p ≡ lexIn 0 Between l (suc p)
+space-skips : (l : List ℕ) (p : ℕ) → lexIn 0 Between (32 ∷ l) p ≡ lexIn 0 Between l (suc p)
 unfolding lexIn skip classOf
-space-on l p = refl
+space-skips l p = refl
 
-line-on : (l : List ℕ) (p : ℕ) → lexIn 0 Between (10 ∷ l) p ≡ lexIn 0 Between l (suc p)
+line-skips : (l : List ℕ) (p : ℕ) → lexIn 0 Between (10 ∷ l) p ≡ lexIn 0 Between l (suc p)
 unfolding lexIn skip classOf
-line-on l p = refl
+line-skips l p = refl
 
 -- ---- a rest of a source
 
@@ -103,9 +91,9 @@ Gives s x l = (p n : ℕ) → At s p l → length l < n → bareTokens s (tokens
 
 module _ (s : List ℕ) (limit : length s ≤ sourceLimit) where
   -- in a source within its limit, the next token is that of the rest
-  token-at : (p : ℕ) (l : List ℕ) → At s p l → nextToken s p ≡ lexIn 0 Between l p
+  rest-token : (p : ℕ) (l : List ℕ) → At s p l → nextToken s p ≡ lexIn 0 Between l p
   unfolding nextToken
-  token-at p l e = rw (le-ltb sourceLimit (length s) limit, le-ltb (length s) p (e .bound), e .left) refl
+  rest-token p l e = rw (le-ltb sourceLimit (length s) limit, le-ltb (length s) p (e .bound), e .left) refl
 
   past : (p : ℕ) (n r : List ℕ) → At s p (n ++ r) → 1 ≤ length n → At s (p + length n) r
   past p n r e h =
@@ -118,7 +106,7 @@ module _ (s : List ℕ) (limit : length s ≤ sourceLimit) where
   unfolding Gives bareTokens tokensFrom
   gives-token k n r x y h t i g p zero e f = absurd (omega arith)
   gives-token k n r x y h t i g p (suc m) e f =
-      ap (λ (a : Answer). bareTokens s (onward a (λ u. tokensFrom m s (u .start + u .size)))) (token-at p (n ++ r) e ∙ t p)
+      ap (λ (a : Answer). bareTokens s (onward a (λ u. tokensFrom m s (u .start + u .size)))) (rest-token p (n ++ r) e ∙ t p)
       ∙ ap (λ (z : Bare). then z (bareTokens s (tokensFrom m s (p + length n)))) (i p (e .left))
       ∙ ap (then x) (g (p + length n) m (past p n r e h) (omega (arith, length-append n r)))
 
@@ -128,13 +116,13 @@ module _ (s : List ℕ) (limit : length s ≤ sourceLimit) where
   gives-skip b l y t g p zero e f = absurd (omega arith)
   gives-skip b l y t g p (suc m) e f =
       let d : At s (suc p) l = next s p b l e in
-      ap (λ (a : Answer). bareTokens s (onward a (λ u. tokensFrom m s (u .start + u .size)))) (token-at p (b ∷ l) e ∙ t p ∙ sym (token-at (suc p) l d))
+      ap (λ (a : Answer). bareTokens s (onward a (λ u. tokensFrom m s (u .start + u .size)))) (rest-token p (b ∷ l) e ∙ t p ∙ sym (rest-token (suc p) l d))
       ∙ g (suc p) (suc m) d (omega arith)
 
   pub gives-end : Gives s (ends (ok tt)) []
   unfolding Gives bareTokens tokensFrom lexIn
   gives-end p zero e f = absurd (omega arith)
-  gives-end p (suc m) e f = ap (λ (a : Answer). bareTokens s (onward a (λ u. tokensFrom m s (u .start + u .size)))) (token-at p [] e)
+  gives-end p (suc m) e f = ap (λ (a : Answer). bareTokens s (onward a (λ u. tokensFrom m s (u .start + u .size)))) (rest-token p [] e)
 
   some : (n : List ℕ) → isSymbol n ≡ true → 1 ≤ length n
   some [] h = unfold isSymbol in true-false (sym h)
@@ -158,16 +146,16 @@ module _ (s : List ℕ) (limit : length s ≤ sourceLimit) where
   gives-at l y g = gives-token at-token (64 ∷ []) l at-sign y (omega arith) (at-token-is l) (λ p e. refl) g
 
   pub gives-space : (l : List ℕ) (y : Series Bare) → Gives s y l → Gives s y (32 ∷ l)
-  gives-space l y g = gives-skip 32 l y (space-on l) g
+  gives-space l y g = gives-skip 32 l y (space-skips l) g
 
   pub gives-line : (l : List ℕ) (y : Series Bare) → Gives s y l → Gives s y (10 ∷ l)
-  gives-line l y g = gives-skip 10 l y (line-on l) g
+  gives-line l y g = gives-skip 10 l y (line-skips l) g
 
   pub gives-spaces : (n : ℕ) (l : List ℕ) (y : Series Bare) → Gives s y l → Gives s y (replicate n 32 ++ l)
   gives-spaces zero l y g = g
   gives-spaces (suc n) l y g = gives-space (replicate n 32 ++ l) y (gives-spaces n l y g)
 
--- the whole source
-pub whole : (s : List ℕ) (x : Series Bare) → Gives s x s → bareTokens s (tokensFrom (suc (length s)) s 0) ≡ x
+-- the source-gives source
+pub source-gives : (s : List ℕ) (x : Series Bare) → Gives s x s → bareTokens s (tokensFrom (suc (length s)) s 0) ≡ x
 unfolding Gives
-whole s x g = g 0 (suc (length s)) (record { left = refl; bound = omega arith }) (omega arith)
+source-gives s x g = g 0 (suc (length s)) (record { left = refl; bound = omega arith }) (omega arith)

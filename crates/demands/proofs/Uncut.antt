@@ -13,6 +13,7 @@ use Rattle.refusals.specs.Result.{ok, refused}
 use Rattle.classes.specs.declared.Class.{Class}
 use Rattle.classes.specs.declared.Class.the-variants.{Space, LineEnd, Semicolon, LParen, RParen, AtSign, FormFeed, Minus, Digit, Other}
 use Rattle.classes.specs.Classes.{classOf, lineEnd, semicolon, rparen}
+use Rattle.classes.proofs.Firsts.{digit-literal}
 use Rattle.lexer.specs.Tokens.{Token, token, past, lparen as openParen, rparen as closeParen, at-sign, Answer, end, is}
 use Rattle.lexer.specs.Lexing.{Skip, Between, InLine, InBlock, Stop, One, Two, leave, skip, skipped, tokenIn, lexIn, lexAt, nextToken}
 use Rattle.lexer.specs.Streams.{Stream, then, onward, tokensFrom}
@@ -20,7 +21,7 @@ use Rattle.feeder.specs.declared.Mode.the-variants.{Blank, Line, Opener, Block}
 use Rattle.feeder.specs.declared.Half.the-variants.{Clear, Semi, Paren}
 use Rattle.feeder.specs.Machine.{closing, Go, Stay, half, out, deeper, inBlank, turn}
 use Rattle.demands.proofs.Events.{events}
-use Rattle.demands.proofs.HeldTokens.{At, inside, next, After, weaken, over, Ends, stays, lasts, in-symbol, digit-literal, begins, after-sign}
+use Rattle.demands.proofs.HeldTokens.{At, inside, next, After, weaken, over, Ends, stays, lasts, in-symbol, begins, after-sign}
 
 -- the limit of the depth is not felt below the source's limit
 depth-on : (d : ℕ) → d < sourceLimit → deeper d ≡ d + 1

@@ -16,6 +16,7 @@ use Rattle.classes.specs.declared.Class.{Class}
 use Rattle.classes.specs.declared.Class.the-variants.{Space, LineEnd, Semicolon, LParen, RParen, AtSign, FormFeed, Minus, Digit, Other}
 use Rattle.classes.specs.Classes.{classOf, blank, semicolon, symbolFirst}
 use Rattle.classes.proofs.Signs.{is-semicolon}
+use Rattle.classes.proofs.Firsts.{first-other}
 use Rattle.lexer.specs.declared.Token.{Token as CodeToken}
 use Rattle.lexer.specs.declared.Token.the-variants as code
 use Rattle.lexer.specs.Tokens.{token, tokenOf, lparen as openParen}
@@ -36,24 +37,12 @@ outside-is (Zero st minus) e = true-false (sym e)
 outside-is (Digits st minus r x) e = true-false (sym e)
 
 -- a byte above `@` begins a symbol
-other-is : (c : Class) → symbolFirst c ≡ true → c ≡ Other
-other-is Space e = true-false (sym e)
-other-is LineEnd e = true-false (sym e)
-other-is Semicolon e = true-false (sym e)
-other-is LParen e = true-false (sym e)
-other-is RParen e = true-false (sym e)
-other-is AtSign e = true-false (sym e)
-other-is FormFeed e = true-false (sym e)
-other-is Minus e = true-false (sym e)
-other-is Digit e = true-false (sym e)
-other-is Other e = refl
-
 above-first : (b : ℕ) → b < 256 → cond (ltb 64 b) true (symbolFirst (classOf b)) ≡ symbolFirst (classOf b)
 unfolding classOf
 above-first b f = agree (λ b. cond (ltb 64 b) true (symbolFirst (classOf b))) (λ b. symbolFirst (classOf b)) refl b f
 
 above : (b : ℕ) → b < 256 → 64 < b → classOf b ≡ Other
-above b f h = other-is (classOf b) (sym (above-first b f) ∙ ap (λ (t : Bool). cond t true (symbolFirst (classOf b))) (lt-ltb 64 b h))
+above b f h = first-other (classOf b) (sym (above-first b f) ∙ ap (λ (t : Bool). cond t true (symbolFirst (classOf b))) (lt-ltb 64 b h))
 
 above-symbol : (b n : ℕ) → 64 < b → tokenBy b n ≡ code.Symbol n
 above-symbol b n h = rw (ne-eqb b 40 (λ (e : b ≡ 40). omega arith), ne-eqb b 41 (λ (e : b ≡ 41). omega arith), ne-eqb b 64 (λ (e : b ≡ 64). omega arith)) refl

@@ -1,33 +1,31 @@
 -- THEOREMS: a token lies within the source (`within`), and of two integers in a row the second does not follow the first at once in one byte (`apart`).
-use Prim.Native.Nat.{ℕ, zero, suc, _+_, _*_, _-_, _/_, _%_, _^_, _≤_, _<_}
+use Prim.Native.Nat.{ℕ, zero, suc, _+_, _*_, _-_, _%_, _^_, _≤_, _<_}
 use mathlib.Core.Path.{_≡_, refl, sym, ap, subst, _∙_}
 use mathlib.Core.List.{List, [], _∷_}
-use mathlib.Core.Bool.{Bool, true, false, cond, _&&_, _||_}
+use mathlib.Core.Bool.{Bool, true, false, cond}
 use native.Mathlib.Nat.{mod-lt}
-use native.Mathlib.Numerals.{add-one}
 use native.Mathlib.Omega.{arith}
 use lib.Dec.{eqb, leb, ltb, lit<}
 use lib.IntN.{ℤ}
 use lib.ListN.{length, getD, drop, length-drop}
-use lib.Seq.{drop-drop, getD-drop}
+use lib.Seq.{drop-drop}
 use mir.Syntax.{w128}
 use mir.Val.{SFits, toZ}
 use mir.ValLaws.{toZ-fits}
-use borrow.Author.Tests.{ltb-true, ltb-false, leb-true, le-leb, eqb-true}
+use borrow.Author.Tests.{ltb-true, ltb-false}
 use Rattle.lists.proofs.Places.{next, first}
-use Rattle.lists.proofs.Choice.{pick, and-left, and-right, or-right, true-false}
+use Rattle.lists.proofs.Choice.{pick, true-false}
 use Rattle.refusals.specs.Numbers.{sourceLimit, tooLong, pastSource}
 use Rattle.refusals.specs.Result.{ok, refused}
 use Rattle.classes.specs.declared.Class.{Class}
 use Rattle.classes.specs.declared.Class.the-variants.{Space, LineEnd, Semicolon, LParen, RParen, AtSign, FormFeed, Minus, Digit, Other}
 use Rattle.classes.specs.Classes.{classOf, digitOf, literalByte, symbolOther}
-use Rattle.wide.specs.Value.{val, split, grown, Integer, is as isInteger, none as noInteger, integerOf}
-use Rattle.wide.specs.declared.Grown.{Grown}
-use Rattle.wide.specs.declared.Grown.the-variants.{Fits, Over as Above}
+use Rattle.classes.proofs.Firsts.{digit-literal}
+use Rattle.wide.specs.Value.{val, grown, Integer, is as isInteger, none as noInteger, integerOf}
 use Rattle.wide.proofs.TwoLimbs.{split-val}
 use Rattle.lexer.specs.Tokens.{Kind, lparen, rparen, at-sign, symbol, int, Token, token, past, Answer, end, is}
 use Rattle.lexer.specs.Literals.{Reading, Empty, Foreign, Over, Number, grew, taken, digit, grow, reading, literalEnd, radixOf, signed, concluded, digitsIn, unsignedIn}
-use Rattle.lexer.specs.Lexing.{Skip, Between, InLine, InBlock, Skipping, Stop, One, Two, skip, symbolEnd, tokenIn, ended, skipped, lexIn, lexAt, nextToken}
+use Rattle.lexer.specs.Lexing.{Skip, Between, InLine, InBlock, Skipping, Stop, One, Two, skip, symbolEnd, tokenIn, skipped, lexIn, lexAt, nextToken}
 
 -- by the kind of a token that starts at st and has n bytes: one byte; a symbol's run; an integer in range that the next byte does not go on, and that has two
 -- bytes if it does not begin with a digit
@@ -237,39 +235,6 @@ limited s p t e = by (ltb sourceLimit (length s)) refl e
 
 -- ---- two integers in a row
 
-abbrev IfDigit : ℕ → Class → Type 0
-IfDigit b Digit = literalByte b ≡ true
-IfDigit b Space = Unit {0}
-IfDigit b LineEnd = Unit {0}
-IfDigit b Semicolon = Unit {0}
-IfDigit b LParen = Unit {0}
-IfDigit b RParen = Unit {0}
-IfDigit b AtSign = Unit {0}
-IfDigit b FormFeed = Unit {0}
-IfDigit b Minus = Unit {0}
-IfDigit b Other = Unit {0}
-
-digit-literal : (b : ℕ) → (leb 48 b && leb b 57) ≡ true → literalByte b ≡ true
-unfolding literalByte digitOf
-digit-literal b e =
-    let lo = leb-true 48 b (and-left (leb 48 b) (leb b 57) e) in
-    let hi = leb-true b 57 (and-right (leb 48 b) (leb b 57) e) in
-    let k : leb (b - 48) 15 ≡ true = le-leb (b - 48) 15 (omega arith) in
-    rw (e, k) (or-right (eqb b 95))
-
-class-digit : (b : ℕ) → IfDigit b (classOf b)
-unfolding classOf
-class-digit b =
-    pick (IfDigit b) (eqb b 32 || eqb b 9) (λ _. tt)
-    (λ _. pick (IfDigit b) (eqb b 10 || eqb b 13) (λ _. tt)
-    (λ _. pick (IfDigit b) (eqb b 59) (λ _. tt)
-    (λ _. pick (IfDigit b) (eqb b 40) (λ _. tt)
-    (λ _. pick (IfDigit b) (eqb b 41) (λ _. tt)
-    (λ _. pick (IfDigit b) (eqb b 64) (λ _. tt)
-    (λ _. pick (IfDigit b) (eqb b 12) (λ _. tt)
-    (λ _. pick (IfDigit b) (eqb b 45) (λ _. tt)
-    (λ _. pick (IfDigit b) (leb 48 b && leb b 57) (digit-literal b) (λ _. tt)))))))))
-
 pub apart : (s : List ℕ) (p : ℕ) (t u : Token) (y z : ℤ) → nextToken s p ≡ ok (is t) → nextToken s (past t) ≡ ok (is u) → t .kind ≡ int y → u .kind ≡ int z
     → past t + 2 ≤ past u
 apart s p t u y z e f ky kz = by (u .start) (u .size) (lu .from) (lu .some) (subst (Shaped s (u .start) (u .size)) kz (lu .shaped))
@@ -284,9 +249,7 @@ apart s p t u y z e f ky kz = by (u .start) (u .size) (lu .from) (lu .some) (sub
     no = subst (Shaped s (t .start) (t .size)) ky (lt .shaped) .1
 
     alone : (st : ℕ) → st ≡ past t → classOf (getD s st 0) ≡ Digit → ⊥
-    alone st k d =
-        let yes : literalByte (getD s st 0) ≡ true = subst (IfDigit (getD s st 0)) d (class-digit (getD s st 0)) in
-        true-false (sym yes ∙ ap (λ (i : ℕ). literalByte (getD s i 0)) k ∙ no)
+    alone st k d = true-false (sym (digit-literal (getD s st 0) d) ∙ ap (λ (i : ℕ). literalByte (getD s i 0)) k ∙ no)
 
     by : (st n : ℕ) → past t ≤ st → 1 ≤ n → Shaped s st n (int z) → past t + 2 ≤ st + n
     by st zero h k d = absurd (omega arith)

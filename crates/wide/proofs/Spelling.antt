@@ -69,8 +69,8 @@ pub record Fill (want out : List ℕ) (n at v : ℕ) : Type 0 where
 pub begin : (out : List ℕ) (at v : ℕ) → v < 2 ^ 128 → at ≡ length (digitsOf v) → at ≤ length out → Fill (over (digitsOf v) out) out (length out) at v
 begin out at v l e h = record { bound = l; size = e; room = h; long = refl; same = ap (λ (k : ℕ). digitsOf v ++ drop k out) e }
 
-pub low : {want out : List ℕ} {n at v : ℕ} → Fill want out n at v → 1 ≤ at
-low {v = v} f = omega (arith, f .size, text-low v)
+pub one-left : {want out : List ℕ} {n at v : ℕ} → Fill want out n at v → 1 ≤ at
+one-left {v = v} f = omega (arith, f .size, text-low v)
 
 -- a byte stored at a place heads what stands from there on
 stored : (l : List ℕ) (i a : ℕ) → i < length l → drop i (set l i a) ≡ a ∷ drop (suc i) l
@@ -85,14 +85,14 @@ pub step : (want out : List ℕ) (n at v d q : ℕ) → Fill want out n at v →
 step want out n at v d q f h e g =
     let l : v < 2 ^ 128 = f .bound in
     let s = one-less v q h l g in
-    let c : suc (at - 1) ≡ at = omega (arith, low f) in
+    let c : suc (at - 1) ≡ at = omega (arith, one-left f) in
     record {
       bound = tenth-lt v q l g;
       size = omega (arith, f .size);
       room = omega (arith, f .room);
       long = length-set out (at - 1) (48 + d) ∙ f .long;
       same =
-          ap (λ (t : List ℕ). digitsOf q ++ t) (stored out (at - 1) (48 + d) (omega (arith, low f, f .room, f .long)))
+          ap (λ (t : List ℕ). digitsOf q ++ t) (stored out (at - 1) (48 + d) (omega (arith, one-left f, f .room, f .long)))
           ∙ sym (append-assoc (digitsOf q) ((48 + d) ∷ []) (drop (suc (at - 1)) out))
           ∙ rw (c, e, g, ← text-more v h l) (f .same);
     }

@@ -16,16 +16,16 @@ module _ (hi lo : ℕ) where
   abbrev pub b : ℕ
   b = a % 10 * 2 ^ 32 + lo % 2 ^ 32
 
-  whole : (hi / 10 * 2 ^ 64 + (a / 10 * 2 ^ 32 + b / 10)) * 10 + b % 10 ≡ hi * 2 ^ 64 + lo
-  whole =
+  tenfold : (hi / 10 * 2 ^ 64 + (a / 10 * 2 ^ 32 + b / 10)) * 10 + b % 10 ≡ hi * 2 ^ 64 + lo
+  tenfold =
       steps hi lo (hi / 10) (hi % 10) (lo / 2 ^ 32) (lo % 2 ^ 32) (a / 10) (a % 10) (b / 10) (b % 10)
       (div-add-mod' hi 10) (div-add-mod' lo (2 ^ 32)) (div-add-mod' a 10) (div-add-mod' b 10)
 
   pub quotient : hi / 10 * 2 ^ 64 + (a / 10 * 2 ^ 32 + b / 10) ≡ (hi * 2 ^ 64 + lo) / 10
-  quotient = sym (ap (λ (x : ℕ). x / 10) (sym whole) ∙ digits-div (hi / 10 * 2 ^ 64 + (a / 10 * 2 ^ 32 + b / 10)) (mod-lt b (omega arith)))
+  quotient = sym (ap (λ (x : ℕ). x / 10) (sym tenfold) ∙ digits-div (hi / 10 * 2 ^ 64 + (a / 10 * 2 ^ 32 + b / 10)) (mod-lt b (omega arith)))
 
   pub digit : b % 10 ≡ (hi * 2 ^ 64 + lo) % 10
-  digit = sym (ap (λ (x : ℕ). x % 10) (sym whole) ∙ digits-mod (hi / 10 * 2 ^ 64 + (a / 10 * 2 ^ 32 + b / 10)) (mod-lt b (omega arith)))
+  digit = sym (ap (λ (x : ℕ). x % 10) (sym tenfold) ∙ digits-mod (hi / 10 * 2 ^ 64 + (a / 10 * 2 ^ 32 + b / 10)) (mod-lt b (omega arith)))
 
 pub pair-fits : (r l : ℕ) → r < 10 → l < 2 ^ 32 → r * 2 ^ 32 + l < 2 ^ 64
 pair-fits r l h k = omega arith

@@ -9,7 +9,7 @@ use lib.Dec.{ltb}
 use borrow.Author.Tests.{lt-ltb}
 use mir.Syntax.{w64, w128}
 use mir.Val.{SFits}
-use Rattle.wide.specs.Value.{Wide, valueOf, value, Signed, Is, Refused, signedOf}
+use Rattle.wide.specs.Value.{Wide, valueOf, value}
 
 pub value-neg : (k l : ℕ) → l < 2 ^ 64 → valueOf (negsuc k) l ≡ negsuc (k * 2 ^ 64 + (2 ^ 64 - suc l))
 unfolding valueOf
@@ -24,17 +24,17 @@ unfolding valueOf
 value-pos k l = refl
 
 -- two digits in a base are decided by their number
-high : (h l k m B : ℕ) → l < B → m < B → h * B + l ≡ k * B + m → h ≡ k
-high h l k m B p q e = sym (digits-div h {m = B} {r = l} p) ∙ ap (λ (x : ℕ). x / B) e ∙ digits-div k {m = B} {r = m} q
+digit-high : (h l k m B : ℕ) → l < B → m < B → h * B + l ≡ k * B + m → h ≡ k
+digit-high h l k m B p q e = sym (digits-div h {m = B} {r = l} p) ∙ ap (λ (x : ℕ). x / B) e ∙ digits-div k {m = B} {r = m} q
 
-low : (h l k m B : ℕ) → l < B → m < B → h * B + l ≡ k * B + m → l ≡ m
-low h l k m B p q e = sym (digits-mod h {m = B} {r = l} p) ∙ ap (λ (x : ℕ). x % B) e ∙ digits-mod k {m = B} {r = m} q
+digit-low : (h l k m B : ℕ) → l < B → m < B → h * B + l ≡ k * B + m → l ≡ m
+digit-low h l k m B p q e = sym (digits-mod h {m = B} {r = l} p) ∙ ap (λ (x : ℕ). x % B) e ∙ digits-mod k {m = B} {r = m} q
 
 -- the low limb is below 2^64, and nothing is asked of the high one
 pub value-high : (y z : ℤ) (l m : ℕ) → l < 2 ^ 64 → m < 2 ^ 64 → valueOf y l ≡ valueOf z m → y ≡ z
 value-high (pos h) (pos k) l m p q e =
     let f : pos (h * 2 ^ 64 + l) ≡ pos (k * 2 ^ 64 + m) = sym (value-pos h l) ∙ e ∙ value-pos k m in
-    ap pos (high h l k m (2 ^ 64) p q (cc))
+    ap pos (digit-high h l k m (2 ^ 64) p q (cc))
 value-high (pos h) (negsuc k) l m p q e =
     let f : pos (h * 2 ^ 64 + l) ≡ negsuc (k * 2 ^ 64 + (2 ^ 64 - suc m)) = sym (value-pos h l) ∙ e ∙ value-neg k m q in
     let z : _≡_ {A = ℕ} 0 1 = cc in absurd (omega arith)
@@ -43,12 +43,12 @@ value-high (negsuc h) (pos k) l m p q e =
     let z : _≡_ {A = ℕ} 0 1 = cc in absurd (omega arith)
 value-high (negsuc h) (negsuc k) l m p q e =
     let f : negsuc (h * 2 ^ 64 + (2 ^ 64 - suc l)) ≡ negsuc (k * 2 ^ 64 + (2 ^ 64 - suc m)) = sym (value-neg h l p) ∙ e ∙ value-neg k m q in
-    ap negsuc (high h (2 ^ 64 - suc l) k (2 ^ 64 - suc m) (2 ^ 64) (omega arith) (omega arith) (cc))
+    ap negsuc (digit-high h (2 ^ 64 - suc l) k (2 ^ 64 - suc m) (2 ^ 64) (omega arith) (omega arith) (cc))
 
 pub value-low : (y z : ℤ) (l m : ℕ) → l < 2 ^ 64 → m < 2 ^ 64 → valueOf y l ≡ valueOf z m → l ≡ m
 value-low (pos h) (pos k) l m p q e =
     let f : pos (h * 2 ^ 64 + l) ≡ pos (k * 2 ^ 64 + m) = sym (value-pos h l) ∙ e ∙ value-pos k m in
-    low h l k m (2 ^ 64) p q (cc)
+    digit-low h l k m (2 ^ 64) p q (cc)
 value-low (pos h) (negsuc k) l m p q e =
     let f : pos (h * 2 ^ 64 + l) ≡ negsuc (k * 2 ^ 64 + (2 ^ 64 - suc m)) = sym (value-pos h l) ∙ e ∙ value-neg k m q in
     let z : _≡_ {A = ℕ} 0 1 = cc in absurd (omega arith)
@@ -57,7 +57,7 @@ value-low (negsuc h) (pos k) l m p q e =
     let z : _≡_ {A = ℕ} 0 1 = cc in absurd (omega arith)
 value-low (negsuc h) (negsuc k) l m p q e =
     let f : negsuc (h * 2 ^ 64 + (2 ^ 64 - suc l)) ≡ negsuc (k * 2 ^ 64 + (2 ^ 64 - suc m)) = sym (value-neg h l p) ∙ e ∙ value-neg k m q in
-    let s : 2 ^ 64 - suc l ≡ 2 ^ 64 - suc m = low h (2 ^ 64 - suc l) k (2 ^ 64 - suc m) (2 ^ 64) (omega arith) (omega arith) (cc) in
+    let s : 2 ^ 64 - suc l ≡ 2 ^ 64 - suc m = digit-low h (2 ^ 64 - suc l) k (2 ^ 64 - suc m) (2 ^ 64) (omega arith) (omega arith) (cc) in
     omega arith
 
 pub value-same : (a b : Wide) → a .lo < 2 ^ 64 → b .lo < 2 ^ 64 → value a ≡ value b → a ≡ b
@@ -66,17 +66,6 @@ value-same a b p q e =
   where
     wide-at : (h h′ : ℤ) (l l′ : ℕ) → h ≡ h′ → l ≡ l′ → _≡_ {A = Wide} (record { hi = h; lo = l }) (record { hi = h′; lo = l′ })
     wide-at h h′ l l′ p q = rw (p, q) refl
-
--- so is an answer that may be a refusal
-abbrev pub LowFits : Signed → Type 0
-LowFits (Is w) = w .lo < 2 ^ 64
-LowFits Refused = Unit {0}
-
-pub signed-same : (a b : Signed) → LowFits a → LowFits b → signedOf a ≡ signedOf b → a ≡ b
-signed-same (Is a) (Is b) p q e = let f : value a ≡ value b = cc in ap Is (value-same a b p q f)
-signed-same (Is a) Refused p q e = let z : _≡_ {A = ℕ} 0 1 = cc in absurd (omega arith)
-signed-same Refused (Is b) p q e = let z : _≡_ {A = ℕ} 0 1 = cc in absurd (omega arith)
-signed-same Refused Refused p q e = refl
 
 -- limbs of 64 bits hold an integer of 128
 pub value-fits : (z : ℤ) (l : ℕ) → SFits w64 z → l < 2 ^ 64 → SFits w128 (valueOf z l)

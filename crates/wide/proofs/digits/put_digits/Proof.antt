@@ -5,7 +5,7 @@ use lib.ListN.{length}
 use Rattle.lists.specs.Over.{over}
 use Rattle.wide.specs.Value.{val}
 use Rattle.wide.specs.Text.{digitsOf}
-use Rattle.wide.proofs.Spelling.{Fill, begin, low, step, big, both, falls, glyph-fits, room-low, rest-low}
+use Rattle.wide.proofs.Spelling.{Fill, begin, one-left, step, big, both, falls, glyph-fits, room-low, rest-low}
 use borrow.Author.Needs.{needs}
 use Rattle.wide.proofs.digits.put_digits.Statement.{statement}
 use Rattle.wide.proofs.digits.put_digits.Tie as tie
@@ -24,7 +24,7 @@ by-ten-requires : tie.Need-by-ten-requires Inv-loop μ-loop
 by-ten-requires c κs = search needs
 
 sub-at : tie.Need-sub-at Inv-loop μ-loop
-sub-at c = low (c .before .before .loop .inv)
+sub-at c = one-left (c .before .before .loop .inv)
 
 add-out : tie.Need-add-out Inv-loop μ-loop
 add-out c = record { fits = glyph-fits _ _ (c .before .by-ten .ensures .1) }
@@ -32,7 +32,7 @@ add-out c = record { fits = glyph-fits _ _ (c .before .by-ten .ensures .1) }
 slice-write-out : tie.Need-slice-write-out Inv-loop μ-loop
 slice-write-out c =
     let i = c .before .before .before .loop .inv in
-    omega (arith, low i, i .room, i .long)
+    omega (arith, one-left i, i .room, i .long)
 
 loop-less : tie.Need-loop-less Inv-loop μ-loop
 loop-less c =

@@ -4,7 +4,7 @@ use native.Mathlib.Omega.{arith}
 use lib.ListN.{length, length-set}
 use Rattle.lists.specs.Over.{over}
 use Rattle.wide.specs.Text.{digitsOf}
-use Rattle.wide.proofs.Spelling.{Fill, begin, low, step, last, low-lt}
+use Rattle.wide.proofs.Spelling.{Fill, begin, one-left, step, last, low-lt}
 use borrow.Author.Needs.{needs}
 use Rattle.wide.proofs.digits.put_low.Statement.{statement}
 use Rattle.wide.proofs.digits.put_low.Tie as tie
@@ -19,7 +19,7 @@ loop-holds : tie.Need-loop-holds Inv-loop μ-loop
 loop-holds c = begin _ _ _ (low-lt (c .args .x) (omega arith)) (c .pre .0) (c .pre .1)
 
 sub-at : tie.Need-sub-at Inv-loop μ-loop
-sub-at c = low (c .before .loop .inv)
+sub-at c = one-left (c .before .loop .inv)
 
 cast-out : tie.Need-cast-out Inv-loop μ-loop
 cast-out c = search needs
@@ -28,7 +28,7 @@ add-out : tie.Need-add-out Inv-loop μ-loop
 add-out c = search needs
 
 slice-write-out : tie.Need-slice-write-out Inv-loop μ-loop
-slice-write-out c = omega (arith, low (c .before .loop .inv), c .before .loop .inv .room, c .before .loop .inv .long)
+slice-write-out c = omega (arith, one-left (c .before .loop .inv), c .before .loop .inv .room, c .before .loop .inv .long)
 
 loop-less : tie.Need-loop-less Inv-loop μ-loop
 loop-less c = search needs
@@ -45,7 +45,7 @@ add-out-2 : tie.Need-add-out-2 Inv-loop μ-loop
 add-out-2 c = search needs
 
 slice-write-out-2 : tie.Need-slice-write-out-2 Inv-loop μ-loop
-slice-write-out-2 c = omega (arith, low (c .before .loop .inv), c .before .loop .inv .room, c .before .loop .inv .long)
+slice-write-out-2 c = omega (arith, one-left (c .before .loop .inv), c .before .loop .inv .room, c .before .loop .inv .long)
 
 same-length : tie.Need-same-length Inv-loop μ-loop
 same-length c = simp length-set (c .before .loop .inv .long)
