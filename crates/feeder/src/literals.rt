@@ -41,6 +41,7 @@ pub fn begun_by(start: usize, minus: bool, b: u8) -> Mode
     }
 }
 
+// A sign without digits is refused as `lexer::literal::concluded` refuses it; calling it here takes registers from the other runs.
 pub fn in_sign(piece: &[u8], place: usize, i: usize, stop: usize, start: usize) -> Moved
     requires { ⌜ Span (now piece) place i stop ⌝ }
     ensures { λ r. ⌜ Further i stop r × (moved (now (piece .entry)) place r ≡ call (now (piece .entry)) place i (Sign start)) ⌝ }
@@ -49,8 +50,11 @@ pub fn in_sign(piece: &[u8], place: usize, i: usize, stop: usize, start: usize) 
     if classes::is_literal_byte(b) {
         return Moved::On(begun_by(start, true, b), i + 1);
     }
-    ended(
-        lexer::literal::concluded(true, start, place + i, Reading::Empty),
+    Moved::Halt(
+        Refusal {
+            number: refusals::NO_DIGITS,
+            place: start,
+        },
         i,
     )
 }

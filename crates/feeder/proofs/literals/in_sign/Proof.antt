@@ -2,8 +2,9 @@
 use mathlib.Core.Path.{refl, sym, _∙_}
 use native.Mathlib.Omega.{arith}
 use denote.Ref.{now}
+use Rattle.lexer.specs.Literals.{concluded}
 use Rattle.feeder.specs.Machine.{Sign, turn}
-use Rattle.feeder.proofs.Calls.{call-go, call-ends, ended-stops}
+use Rattle.feeder.proofs.Calls.{call-go, call-halt}
 use borrow.Author.Needs.{needs}
 use Rattle.feeder.proofs.literals.in_sign.Statement.{statement}
 use Rattle.feeder.proofs.literals.in_sign.Tie as tie
@@ -27,24 +28,12 @@ returns c =
     let f = sym (c .before .before .is-literal-byte .ensures) ∙ c .before .if1 .taken in
     ((omega arith, omega arith), sym (call-go (now (a .piece)) (a .place) (a .i) (Sign (a .start)) (omega arith) (omega arith) _ (rw (f, c .begun-by .ensures) refl)))
 
-add-concluded : tie.Need-add-concluded
-add-concluded c = search needs
-
-concluded-requires : tie.Need-concluded-requires
-concluded-requires c κs = search needs
-
-ended-requires : tie.Need-ended-requires
-ended-requires c κs = search needs
-
 returns-2 : tie.Need-returns-2
-unfolding turn
+unfolding turn concluded
 returns-2 c =
-    let a = c .before .before .before .before .before .before .args in
-    let f = sym (c .before .before .before .is-literal-byte .ensures) ∙ c .before .before .if1 .left in
-    rw (c .ended .ensures) (
-      ended-stops (c .before .concluded .result) (a .i) (a .stop) (a .i) (omega arith),
-      sym (call-ends (now (a .piece)) (a .place) (a .i) (Sign (a .start)) (omega arith) (omega arith) (c .before .concluded .result) _ (c .before .concluded .ensures) (rw f refl)),
-    )
+    let a = c .before .before .before .before .args in
+    let f = sym (c .before .is-literal-byte .ensures) ∙ c .if1 .left in
+    (omega arith, sym (call-halt (now (a .piece)) (a .place) (a .i) (Sign (a .start)) (omega arith) (omega arith) _ _ (rw f refl)))
 
 pub in-sign-spec : {M : Type 1} → statement M
 in-sign-spec =
@@ -55,7 +44,4 @@ in-sign-spec =
     begun-by-requires
     add-t11
     returns
-    add-concluded
-    concluded-requires
-    ended-requires
     returns-2)
