@@ -1,6 +1,6 @@
 -- The layout of trees at a width (document 01, 'How a table is laid out'): the bytes, and the column after them.
-use Prim.Native.Nat.{ℕ, _+_, _*_}
-use mathlib.Core.Bool.{Bool, true, false, cond}
+use Prim.Native.Nat.{ℕ, _+_, _*_, _-_}
+use mathlib.Core.Bool.{Bool, true, false, cond, _&&_}
 use mathlib.Core.List.{List, [], _∷_, _++_}
 use lib.ListN.{length, replicate}
 use lib.Dec.{leb}
@@ -33,9 +33,12 @@ column (written o c) = c
 abbrev pub put : List ℕ → ℕ → Put
 put o c = written o (c + length o)
 
--- a line break sets the column to 0 and then writes 4 spaces per indent, which the column does not count
+-- a line break at indent i sets the column to 0 and then writes 4 spaces per indent, which the column does not count
+unfoldable pub breakColumn : ℕ → ℕ
+breakColumn i = 0
+
 abbrev pub nl : ℕ → Put
-nl i = written (10 ∷ replicate (4 * i) 32) 0
+nl i = written (10 ∷ replicate (4 * i) 32) (breakColumn i)
 
 -- one thing after the other
 abbrev pub next : Put → (ℕ → Put) → Put
@@ -45,9 +48,12 @@ next x k = written (bytes x ++ bytes (k (column x))) (column (k (column x)))
 pub data Wrapping : Type 0 where
   Wrap SingleLine : Wrapping
 
--- a list fits if its cost is at most width minus column, and never if the column is past the width
+-- a list fits if its cost k is at most width minus column, and never if the column is past the width
+unfoldable pub fitsIn : ℕ → ℕ → ℕ → Bool
+fitsIn w c k = leb c w && leb k (w - c)
+
 abbrev pub fits : ℕ → ℕ → Tree → Bool
-fits w c x = leb (c + cost x) w
+fits w c x = fitsIn w c (cost x)
 
 -- a list that fits is on a single line, and so is all inside it
 abbrev pub wrapped : Wrapping → ℕ → ℕ → Tree → Wrapping

@@ -1,4 +1,6 @@
 pub mod Layout
 pub mod Printing
-pub mod Code
-pub mod Measuring
+pub mod PrivateTrees
+pub mod PrivateFitting
+pub mod PrivateMeasuring
+pub mod PrivateWriting

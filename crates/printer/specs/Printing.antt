@@ -5,39 +5,36 @@ use mathlib.Core.List.{List}
 use lib.ListN.{length}
 use lib.Dec.{leb}
 use Rattle.refusals.specs.Numbers.{printRoom}
+use Rattle.refusals.specs.Result.{Result, ok, refused, refusedBy}
 use Rattle.lists.specs.Over.{fitted}
 use Rattle.table.specs.Trees.{Trees}
-use Rattle.table.specs.Decoding.{Found, found, refused, tableOf}
+use Rattle.table.specs.Decoding.{Found, found, tableOf}
 use Rattle.printer.specs.Layout.{page}
 use Rattle.printer.specs.declared.Printed.{Printed}
 use Rattle.printer.specs.declared.Printed.the-variants as code
 
--- the length of the text, or a refusal's number and place
-pub data Print : Type 0 where
-  text : ℕ → Print
-  no : ℕ → ℕ → Print
-
 -- 18 last, with the bytes needed
-abbrev pub roomed : List ℕ → ℕ → Print
-roomed o k = cond (leb (length o) k) (text (length o)) (no printRoom (length o))
+abbrev pub roomed : List ℕ → ℕ → Result ℕ
+roomed o k = cond (leb (length o) k) (ok (length o)) (refused printRoom (length o))
 
-abbrev pub answered : Found Trees → ℕ → ℕ → Print
-answered (found xs q) w k = roomed (page xs w) k
-answered (refused n a) w k = no n a
+-- the length of the text, or a refusal's number and place
+abbrev pub answered : Result (Found Trees) → ℕ → ℕ → Result ℕ
+answered (ok (found xs q)) w k = roomed (page xs w) k
+answered (refused n a) w k = refused n a
 
 -- no refusal changes a byte, and bytes after the text stay
-abbrev pub leaves : Found Trees → ℕ → List ℕ → List ℕ
-leaves (found xs q) w b = fitted (page xs w) b
+abbrev pub leaves : Result (Found Trees) → ℕ → List ℕ → List ℕ
+leaves (ok (found xs q)) w b = fitted (page xs w) b
 leaves (refused n a) w b = b
 
 -- printing a table at a width into a buffer of k bytes; and what the buffer b then holds
-unfoldable pub printing : List ℕ → ℕ → ℕ → Print
+unfoldable pub printing : List ℕ → ℕ → ℕ → Result ℕ
 printing t w k = answered (tableOf true t) w k
 
 unfoldable pub printedInto : List ℕ → ℕ → List ℕ → List ℕ
 printedInto t w b = leaves (tableOf true t) w b
 
 -- document 01's number and values for each case of the answer's enum
-abbrev pub printOf : Printed → Print
-printOf (code.Text n) = text n
-printOf (code.Refused r) = no (r .number) (r .place)
+abbrev pub printOf : Printed → Result ℕ
+printOf (code.Text n) = ok n
+printOf (code.Refused r) = refusedBy r

@@ -1,4 +1,5 @@
-// The cost of a tree, against what is left of the line.
+// The fits test: a cost, a column and a width, and the walk that adds a tree's cost up.
+use records::HEAD;
 ghost use mathlib.Core.Path.{_≡_};
 ghost use mathlib.Core.Bool.{true};
 ghost use Prim.Native.Nat.{ℕ, _+_, _≤_};
@@ -6,8 +7,9 @@ ghost use lib.ListN.{length};
 ghost use Rattle.refusals.specs.Numbers.{tableLimit};
 ghost use Rattle.table.specs.Records.{recordAt};
 ghost use Rattle.table.specs.Decoding.{treeAt};
-ghost use Rattle.printer.specs.Layout.{fits as fitsOf};
-ghost use Rattle.printer.specs.Code.{Right, treeOf, Entered};
+ghost use Rattle.printer.specs.Layout.{fitsIn, fits as fitsOf};
+ghost use Rattle.printer.specs.PrivateTrees.{Right, treeOf};
+ghost use Rattle.printer.specs.PrivateFitting.{Entered};
 
 pub enum Entry {
     // A record's cost, its length, and the trees that come due with it.
@@ -20,49 +22,55 @@ fn entry_at(t: &[u8], at: usize) -> Entry
     requires { ⌜ (at ≤ tableLimit + 4294967295) ⌝ }
     ensures { λ r. ⌜ Entered (now (t .entry)) at (recordAt (now (t .entry)) at) r ⌝ }
 {
-    let len = wide::u32_at(t, at);
-    if len < 6 {
+    let len = records::len_at(t, at);
+    if len < HEAD {
         return Entry::Bad;
     }
-    let kind = wide::u16_at(t, at + 4);
-    if kind == 1 {
-        return Entry::Is(len - 6, len, 0);
+    let kind = records::kind_at(t, at);
+    if kind == table::SYMBOL {
+        return Entry::Is(len - HEAD, len, 0);
     }
-    if kind == 4 {
-        let n = wide::u32_at(t, at + 6);
+    if kind == table::LIST {
+        let n = wide::u32_at(t, at + HEAD);
         return Entry::Is(n + 1, len, n);
     }
-    if kind == 3 {
-        return Entry::Is(len - 3, len, 1);
+    if kind == table::BINDING {
+        return Entry::Is(len - HEAD + 3, len, 1);
     }
-    Entry::Is(wide::text_len(wide::wide_at(t, at + 6)), len, 0)
+    Entry::Is(wide::text_len(wide::wide_at(t, at + HEAD)), len, 0)
 }
 
-// Whether the tree at `at` fits: its records are walked with a count of the trees still due, up to the first that costs too much.
-pub fn fits(t: &[u8], at: usize, width: usize, column: usize) -> bool
-    requires { ⌜ (at ≤ length (now t)) × (length (now t) ≤ 16777216) ⌝ }
-    ensures { λ r. ⌜ ((d : ℕ) → Right (treeAt (now (t .entry)) true d at) → r ≡ fitsOf width column (treeOf (treeAt (now (t .entry)) true d at))) ⌝ }
+// At most width minus column, and never if the column is past the width.
+pub fn fits_in(width: usize, column: usize, cost: usize) -> bool
+    ensures { λ r. ⌜ r ≡ fitsIn width column cost ⌝ }
 {
     if width < column {
         return false;
     }
-    let mut left = width - column;
+    cost <= width - column
+}
+
+// Whether the tree at `at` fits: its records are walked with a count of the trees still due, up to the first that costs too much.
+pub fn fits(t: &[u8], at: usize, width: usize, column: usize) -> bool
+    requires { ⌜ (at ≤ length (now t)) × (length (now t) ≤ tableLimit) ⌝ }
+    ensures { λ r. ⌜ ((d : ℕ) → Right (treeAt (now (t .entry)) true d at) → r ≡ fitsOf width column (treeOf (treeAt (now (t .entry)) true d at))) ⌝ }
+{
+    let mut cost = 0;
     let mut p = at;
     let mut due = 1;
-    while 0 < due {
+    let mut fit = fits_in(width, column, 0);
+    while fit & (0 < due) {
         match entry_at(t, p) {
             Entry::Bad => {
                 return false;
             }
-            Entry::Is(cost, size, more) => {
-                if left < cost {
-                    return false;
-                }
-                left = left - cost;
+            Entry::Is(own, size, more) => {
+                cost = cost + own;
                 p = p + size;
                 due = due - 1 + more;
+                fit = fits_in(width, column, cost);
             }
         }
     }
-    true
+    fit
 }

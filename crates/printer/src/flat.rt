@@ -1,16 +1,16 @@
 // A tree on a single line, and so all inside it: no column, no width and no indent.
-use crate::put_name;
+use crate::atoms;
 use crate::room;
 use table::Record;
 ghost use mathlib.Core.Path.{_≡_};
 ghost use mathlib.Core.Bool.{true};
-ghost use Prim.Native.Nat.{ℕ, _≤_};
+ghost use Prim.Native.Nat.{_≤_};
 ghost use lib.ListN.{length};
 ghost use Rattle.refusals.specs.Numbers.{tableLimit, depthLimit};
 ghost use Rattle.table.specs.Decoding.{treeAt};
-ghost use Rattle.table.specs.declared.Record.the-variants.{Bad};
 ghost use Rattle.table.specs.Records.{recordAt};
-ghost use Rattle.printer.specs.Code.{Right, treeOf, nextOf, Lined, named-len};
+ghost use Rattle.printer.specs.PrivateTrees.{Right, Sound, named-len};
+ghost use Rattle.printer.specs.PrivateWriting.{line, Written};
 
 pub struct Run {
     // The place past the tree.
@@ -22,10 +22,10 @@ pub struct Run {
 // The length of the symbol's record at `at` of a checked table, or 0 of any other record.
 fn symbol_at(t: &[u8], at: usize) -> usize
     requires { ⌜ at ≤ tableLimit ⌝ }
-    ensures { λ r. ⌜ ((recordAt (now (t .entry)) at ≡ Bad → ⊥) → r ≡ named-len (recordAt (now (t .entry)) at)) ⌝ }
+    ensures { λ r. ⌜ (Sound (recordAt (now (t .entry)) at) → r ≡ named-len (recordAt (now (t .entry)) at)) ⌝ }
 {
-    if wide::u16_at(t, at + 4) == 1 {
-        return wide::u32_at(t, at);
+    if records::kind_at(t, at) == table::SYMBOL {
+        return records::len_at(t, at);
     }
     0
 }
@@ -33,26 +33,27 @@ fn symbol_at(t: &[u8], at: usize) -> usize
 // The tree at `at` of a checked table. A symbol in a list takes no call of its own.
 pub fn print_flat(t: &[u8], at: usize, depth: usize, out: &mut [u8]) -> Run
     requires { ⌜ (at ≤ length (now t)) × (length (now t) ≤ tableLimit) × (depth ≤ depthLimit) × Right (treeAt (now t) true depth at) ⌝ }
-    ensures { λ r. ⌜ (r .next ≡ nextOf (treeAt (now (t .entry)) true depth at))
-        × ((w i c : ℕ) → Lined (treeOf (treeAt (now (t .entry)) true depth at)) w i c (r .len) (now (out .entry)) (now (out .exit))) ⌝ }
+    ensures { λ r. ⌜ Written line (treeAt (now (t .entry)) true depth at) (r .next) (r .len) (now (out .entry)) (now (out .exit)) ⌝ }
 {
     let node = table::record_at(t, at);
     match node {
-        Record::Bad => Run { next: at, len: 0 },
+        Record::Bad(_) => Run { next: at, len: 0 },
         Record::Symbol(len) => {
-            let start = at + 6;
-            let end = at + len;
+            let n = atoms::put_symbol(t, at, len, out);
             Run {
-                next: end,
-                len: room::put(&t[start..end], out),
+                next: at + len,
+                len: n,
             }
         }
-        Record::Integer => Run {
-            next: at + 22,
-            len: wide::put_text(wide::wide_at(t, at + 6), out),
-        },
+        Record::Integer => {
+            let n = atoms::put_integer(t, at, out);
+            Run {
+                next: at + table::INTEGER_LEN,
+                len: n,
+            }
+        }
         Record::Binding(len) => {
-            let k = put_name(t, at, len, out);
+            let k = atoms::put_name(t, at, len, out);
             let rest = room::least(k, out.len());
             let tree = print_flat(t, at + len, depth - 1, &mut out[rest..]);
             Run {
@@ -62,30 +63,29 @@ pub fn print_flat(t: &[u8], at: usize, depth: usize, out: &mut [u8]) -> Run
         }
         Record::List(n) => {
             let mut w = room::put_byte(b'(', out);
-            let mut p = at + 10;
+            let mut p = at + table::LIST_LEN;
             let mut i = 0;
             while i < n {
-                if 0 < i {
-                    let from = room::least(w, out.len());
-                    w = w + room::put_byte(b' ', &mut out[from..]);
-                }
-                let rest = room::least(w, out.len());
+                let from = room::least(w, out.len());
+                let k = w + room::put_unless(i == 0, b' ', &mut out[from..]);
+                let rest = room::least(k, out.len());
                 let len = symbol_at(t, p);
                 if 0 < len {
-                    let start = p + 6;
-                    let end = p + len;
-                    w = w + room::put(&t[start..end], &mut out[rest..]);
-                    p = end;
+                    w = k + atoms::put_symbol(t, p, len, &mut out[rest..]);
+                    p = p + len;
                 } else {
                     let item = print_flat(t, p, depth - 1, &mut out[rest..]);
-                    w = w + item.len;
+                    w = k + item.len;
                     p = item.next;
                 }
                 i += 1;
             }
             let rest = room::least(w, out.len());
-            w = w + room::put_byte(b')', &mut out[rest..]);
-            Run { next: p, len: w }
+            let end = room::put_byte(b')', &mut out[rest..]);
+            Run {
+                next: p,
+                len: w + end,
+            }
         }
     }
 }

@@ -1,44 +1,55 @@
-// What stands before an item of a list that is wrapped, and before its closing parenthesis.
+// What stands before an item of a list that is wrapped, and before its closing parenthesis; and where the item then is.
 use crate::room;
 ghost use mathlib.Core.Path.{_≡_};
 ghost use Prim.Native.Nat.{_+_, _≤_};
-ghost use lib.ListN.{length};
 ghost use Rattle.refusals.specs.Numbers.{depthLimit};
-ghost use Rattle.printer.specs.Layout.{Wrap, bytes, column as columnOf, gap as gapOf, inner};
-ghost use Rattle.printer.specs.Code.{Filled, closing};
+ghost use Rattle.printer.specs.Layout.{Wrap, bytes, column as columnOf, breakColumn, gap, inner};
+ghost use Rattle.printer.specs.PrivateWriting.{Puts, closing};
 
-pub struct Gap {
-    pub len: usize,
-    // The column and the indent of the item.
-    pub column: usize,
-    pub indent: usize,
+// The column that a line break sets.
+fn break_column(indent: usize) -> usize
+    ensures { λ r. ⌜ r ≡ breakColumn indent ⌝ }
+{
+    0
 }
 
-// What stands before an item: the first is at `column`, each other on a line of its own.
-pub fn put_gap(first: bool, indent: usize, column: usize, out: &mut [u8]) -> Gap
-    requires { ⌜ indent + 1 ≤ depthLimit ⌝ }
-    ensures { λ r. ⌜ (r .len ≡ length (bytes (gapOf first Wrap indent column))) × (r .column ≡ columnOf (gapOf first Wrap indent column))
-        × (r .indent ≡ inner first Wrap indent) × Filled (bytes (gapOf first Wrap indent column)) (now (out .entry)) (now (out .exit)) ⌝ }
+// The indent of an item: only the first stays on its line.
+pub fn item_indent(first: bool, indent: usize) -> usize
+    requires { ⌜ indent ≤ depthLimit ⌝ }
+    ensures { λ r. ⌜ r ≡ inner first Wrap indent ⌝ }
 {
     if first {
-        return Gap {
-            len: 0,
-            column,
-            indent,
-        };
+        return indent;
     }
-    let len = room::nl(indent + 1, out);
-    Gap {
-        len,
-        column: 0,
-        indent: indent + 1,
+    indent + 1
+}
+
+// The column of an item; the parenthesis before the first leaves `column`.
+pub fn item_column(first: bool, indent: usize, column: usize) -> usize
+    requires { ⌜ indent ≤ depthLimit ⌝ }
+    ensures { λ r. ⌜ r ≡ columnOf (gap first Wrap indent column) ⌝ }
+{
+    if first {
+        return column;
     }
+    break_column(indent + 1)
+}
+
+// What stands before an item: each but the first is on a line of its own.
+pub fn put_gap(first: bool, indent: usize, out: &mut [u8]) -> usize
+    requires { ⌜ indent + 1 ≤ depthLimit ⌝ }
+    ensures { λ r. ⌜ Puts (bytes (gap first Wrap indent 0)) r (now (out .entry)) (now (out .exit)) ⌝ }
+{
+    if first {
+        return 0;
+    }
+    room::nl(indent + 1, out)
 }
 
 // A closing parenthesis, and the line break before it.
 pub fn put_close(empty: bool, indent: usize, out: &mut [u8]) -> usize
     requires { ⌜ indent ≤ depthLimit ⌝ }
-    ensures { λ r. ⌜ (r ≡ length (bytes (closing empty Wrap indent 0))) × Filled (bytes (closing empty Wrap indent 0)) (now (out .entry)) (now (out .exit)) ⌝ }
+    ensures { λ r. ⌜ Puts (closing empty indent) r (now (out .entry)) (now (out .exit)) ⌝ }
 {
     if empty {
         return room::put_byte(b')', out);

@@ -1,4 +1,5 @@
 // The layout of a table at a width, a port of the crate's `Printer`: checked and measured in one walk, then laid into the room lent.
+mod atoms;
 mod cost;
 mod flat;
 mod gaps;
@@ -11,39 +12,20 @@ use refusals::Refusal;
 use table::Record;
 ghost use mathlib.Core.Path.{_≡_};
 ghost use mathlib.Core.Bool.{true};
-ghost use Prim.Native.Nat.{_+_, _≤_};
+ghost use Prim.Native.Nat.{_≤_};
 ghost use lib.Dec.{ltb};
 ghost use lib.ListN.{length};
-ghost use Rattle.refusals.specs.Numbers.{depthLimit};
-ghost use Rattle.table.specs.Records.{payload};
+ghost use Rattle.refusals.specs.Numbers.{tableLimit, depthLimit};
 ghost use Rattle.table.specs.Decoding.{treeAt, tableOf};
-ghost use Rattle.printer.specs.Layout.{named, page};
+ghost use Rattle.printer.specs.Layout.{page};
 ghost use Rattle.printer.specs.Printing.{printing, printedInto, printOf};
-ghost use Rattle.printer.specs.Code.{Right, treeOf, treesOf, nextOf, Filled, Laid, Ready, between, framed};
+ghost use Rattle.printer.specs.PrivateTrees.{Right, treesOf};
+ghost use Rattle.printer.specs.PrivateWriting.{Puts, Written, laid, Ready, framed};
 
 pub enum Printed {
     // The bytes written.
     Text(usize),
     Refused(Refusal),
-}
-
-// The name of the binding whose record of `len` bytes stands at `at`, and ` @ `.
-fn put_name(t: &[u8], at: usize, len: usize, out: &mut [u8]) -> usize
-    requires { ⌜ (6 ≤ len) × (at + len ≤ length (now t)) ⌝ }
-    ensures { λ r. ⌜ (r ≡ length (named (payload (now (t .entry)) at len)))
-        × Filled (named (payload (now (t .entry)) at len)) (now (out .entry)) (now (out .exit)) ⌝ }
-{
-    let start = at + 6;
-    let end = at + len;
-    let n = len - 6;
-    if out.len() < n + 3 {
-        return n + 3;
-    }
-    bytes::copy(&t[start..end], out);
-    out[n] = b' ';
-    out[n + 1] = b'@';
-    out[n + 2] = b' ';
-    n + 3
 }
 
 // The tree at `at` of a checked table. A list that fits is on a single line, with all inside it; any other has its items tested in turn.
@@ -57,26 +39,27 @@ fn print_wrapped(
     out: &mut [u8],
 ) -> Run
     requires { ⌜ Ready (now t) depth at width indent column ⌝ }
-    ensures { λ r. ⌜ Laid (treeAt (now (t .entry)) true depth at) width indent column (r .next) (r .len) (now (out .entry)) (now (out .exit)) ⌝ }
+    ensures { λ r. ⌜ Written (laid width indent column) (treeAt (now (t .entry)) true depth at) (r .next) (r .len) (now (out .entry)) (now (out .exit)) ⌝ }
 {
     let node = table::record_at(t, at);
     match node {
-        Record::Bad => Run { next: at, len: 0 },
+        Record::Bad(_) => Run { next: at, len: 0 },
         Record::Symbol(len) => {
-            let start = at + 6;
-            let end = at + len;
-            let n = room::put(&t[start..end], out);
-            Run { next: end, len: n }
+            let n = atoms::put_symbol(t, at, len, out);
+            Run {
+                next: at + len,
+                len: n,
+            }
         }
         Record::Integer => {
-            let n = wide::put_text(wide::wide_at(t, at + 6), out);
+            let n = atoms::put_integer(t, at, out);
             Run {
-                next: at + 22,
+                next: at + table::INTEGER_LEN,
                 len: n,
             }
         }
         Record::Binding(len) => {
-            let k = put_name(t, at, len, out);
+            let k = atoms::put_name(t, at, len, out);
             let rest = room::least(k, out.len());
             let tree = print_wrapped(
                 t,
@@ -97,20 +80,19 @@ fn print_wrapped(
                 return flat::print_flat(t, at, depth, out);
             }
             let mut w = room::put_byte(b'(', out);
-            let mut p = at + 10;
+            let mut p = at + table::LIST_LEN;
             let mut i = 0;
             while i < n {
                 let from = room::least(w, out.len());
-                let g = gaps::put_gap(i == 0, indent, column + 1, &mut out[from..]);
-                let k = w + g.len;
+                let k = w + gaps::put_gap(i == 0, indent, &mut out[from..]);
                 let rest = room::least(k, out.len());
                 let item = print_wrapped(
                     t,
                     p,
                     depth - 1,
                     width,
-                    g.indent,
-                    g.column,
+                    gaps::item_indent(i == 0, indent),
+                    gaps::item_column(i == 0, indent, column + 1),
                     &mut out[rest..],
                 );
                 w = k + item.len;
@@ -127,24 +109,12 @@ fn print_wrapped(
     }
 }
 
-// The LF between two trees.
-fn put_between(later: bool, out: &mut [u8]) -> usize
-    ensures { λ r. ⌜ (r ≡ length (between later)) × Filled (between later) (now (out .entry)) (now (out .exit)) ⌝ }
-{
-    if later {
-        return room::put_byte(b'\n', out);
-    }
-    0
-}
-
 // A tree and its LF, and the LF between it and one before it.
 fn print_node(t: &[u8], at: usize, width: usize, out: &mut [u8]) -> Run
-    requires { ⌜ (at ≤ length (now t)) × (length (now t) ≤ 16777216) × Right (treeAt (now t) true depthLimit at) ⌝ }
-    ensures { λ r. ⌜ (r .next ≡ nextOf (treeAt (now (t .entry)) true depthLimit at))
-        × (r .len ≡ length (framed (ltb 0 at) (treeOf (treeAt (now (t .entry)) true depthLimit at)) width))
-        × Filled (framed (ltb 0 at) (treeOf (treeAt (now (t .entry)) true depthLimit at)) width) (now (out .entry)) (now (out .exit)) ⌝ }
+    requires { ⌜ (at ≤ length (now t)) × (length (now t) ≤ tableLimit) × Right (treeAt (now t) true depthLimit at) ⌝ }
+    ensures { λ r. ⌜ Written (framed (ltb 0 at) width) (treeAt (now (t .entry)) true depthLimit at) (r .next) (r .len) (now (out .entry)) (now (out .exit)) ⌝ }
 {
-    let w = put_between(0 < at, out);
+    let w = room::put_unless(at == 0, b'\n', out);
     let rest = room::least(w, out.len());
     let tree = print_wrapped(t, at, refusals::DEPTH_LIMIT, width, 0, 0, &mut out[rest..]);
     let end = w + tree.len;
@@ -159,8 +129,7 @@ fn print_node(t: &[u8], at: usize, width: usize, out: &mut [u8]) -> Run
 // All trees of a checked table, each in the rest of the room from its first free byte; the bytes that they take.
 fn print_trees(t: &[u8], width: usize, out: &mut [u8]) -> usize
     requires { ⌜ Right (tableOf true (now t)) ⌝ }
-    ensures { λ r. ⌜ (r ≡ length (page (treesOf (tableOf true (now (t .entry)))) width))
-        × Filled (page (treesOf (tableOf true (now (t .entry)))) width) (now (out .entry)) (now (out .exit)) ⌝ }
+    ensures { λ r. ⌜ Puts (page (treesOf (tableOf true (now (t .entry)))) width) r (now (out .entry)) (now (out .exit)) ⌝ }
 {
     let mut p = 0;
     let mut w = 0;

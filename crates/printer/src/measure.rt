@@ -1,14 +1,18 @@
 // The check of a table and its measure in one walk, before a byte is written: what each tree costs, and the bytes that it takes.
+use crate::cost;
+use crate::gaps;
+use records::HEAD;
 use refusals::Refusal;
 use table::Step;
 ghost use mathlib.Core.Path.{_≡_};
 ghost use mathlib.Core.Bool.{true};
-ghost use Prim.Native.Nat.{_+_, _≤_, _<_};
+ghost use Prim.Native.Nat.{_+_, _*_, _≤_, _<_};
 ghost use lib.ListN.{length};
 ghost use Rattle.refusals.specs.Numbers.{tableLimit, depthLimit};
+ghost use Rattle.refusals.specs.Result.{ok};
 ghost use Rattle.table.specs.Trees.{list};
 ghost use Rattle.table.specs.Decoding.{treeAt, itemsAt, andThen, found, tableOf};
-ghost use Rattle.printer.specs.Measuring.{Sized, Summed, itemIndent, itemColumn};
+ghost use Rattle.printer.specs.PrivateMeasuring.{Sized, Summed};
 
 pub struct Size {
     // A refusal's number, or 0.
@@ -52,27 +56,6 @@ fn atom(place: usize, n: usize) -> Size
     }
 }
 
-// The indent and the column of an item of a list that is wrapped: only the first stays on its line.
-fn inner(first: bool, indent: usize) -> usize
-    requires { ⌜ indent ≤ depthLimit ⌝ }
-    ensures { λ r. ⌜ r ≡ itemIndent first indent ⌝ }
-{
-    if first {
-        return indent;
-    }
-    indent + 1
-}
-
-fn begins(first: bool, column: usize) -> usize
-    requires { ⌜ column ≤ tableLimit ⌝ }
-    ensures { λ r. ⌜ r ≡ itemColumn first column ⌝ }
-{
-    if first {
-        return column + 1;
-    }
-    0
-}
-
 // The tree at `at`, with `depth` lists and bindings still to be opened.
 fn measure_tree(
     t: &[u8],
@@ -82,16 +65,19 @@ fn measure_tree(
     indent: usize,
     column: usize,
 ) -> Size
-    requires { ⌜ (at ≤ length (now t)) × (length (now t) ≤ tableLimit) × (indent + depth ≤ depthLimit) × (column ≤ at) ⌝ }
+    requires { ⌜ (at ≤ length (now t)) × (length (now t) ≤ tableLimit) × (indent + depth ≤ depthLimit) × (column ≤ at + 4 * depthLimit) ⌝ }
     ensures { λ r. ⌜ Sized (treeAt (now (t .entry)) true depth at) width indent column r ⌝ }
 {
     let step = table::step_at(t, at, 0 < depth, true);
     match step {
         Step::Fault(number) => stopped(number, at),
-        Step::Symbol(len) => atom(at + len, len - 6),
-        Step::Integer => atom(at + 22, wide::text_len(wide::wide_at(t, at + 6))),
+        Step::Symbol(len) => atom(at + len, len - HEAD),
+        Step::Integer => atom(
+            at + table::INTEGER_LEN,
+            wide::text_len(wide::wide_at(t, at + HEAD)),
+        ),
         Step::Binding(len) => {
-            let n = len - 3;
+            let n = len - HEAD + 3;
             let m = measure_tree(t, at + len, depth - 1, width, indent, column + n);
             if 0 < m.number {
                 return stopped(m.number, m.place);
@@ -104,7 +90,7 @@ fn measure_tree(
                 len: n + m.len,
             }
         }
-        Step::List(n) => measure_list(t, at + 10, n, depth - 1, width, indent, column),
+        Step::List(n) => measure_list(t, at + table::LIST_LEN, n, depth - 1, width, indent, column),
     }
 }
 
@@ -118,8 +104,8 @@ fn measure_list(
     indent: usize,
     column: usize,
 ) -> Size
-    requires { ⌜ (at ≤ length (now t)) × (length (now t) ≤ tableLimit) × (indent + 1 + depth ≤ depthLimit) × (column + 1 ≤ at) × (n < 4294967296) ⌝ }
-    ensures { λ r. ⌜ Sized (andThen (itemsAt (treeAt (now (t .entry)) true depth) n at) (λ xs q. found (list xs) q)) width indent column r ⌝ }
+    requires { ⌜ (at ≤ length (now t)) × (length (now t) ≤ tableLimit) × (indent + 1 + depth ≤ depthLimit) × (column + 1 ≤ at + 4 * depthLimit) × (n < 4294967296) ⌝ }
+    ensures { λ r. ⌜ Sized (andThen (itemsAt (treeAt (now (t .entry)) true depth) n at) (λ xs q. ok (found (list xs) q))) width indent column r ⌝ }
 {
     if n == 0 {
         return Size {
@@ -138,7 +124,7 @@ fn measure_list(
     while i < n {
         let q = table::past_symbol(t, p);
         if p < q {
-            let k = q - p - 6;
+            let k = q - p - HEAD;
             cost = cost + k;
             len = len + k;
             p = q;
@@ -148,8 +134,8 @@ fn measure_list(
                 p,
                 depth,
                 width,
-                inner(i == 0, indent),
-                begins(i == 0, column),
+                gaps::item_indent(i == 0, indent),
+                gaps::item_column(i == 0, indent, column + 1),
             );
             if 0 < m.number {
                 return stopped(m.number, m.place);
@@ -161,7 +147,7 @@ fn measure_list(
         }
         i += 1;
     }
-    if column + cost <= width {
+    if cost::fits_in(width, column, cost) {
         return Size {
             number: 0,
             place: p,

@@ -1,11 +1,11 @@
 // A room that may be too short: what is put there is there only if it fits, and its length is known all the same.
 ghost use mathlib.Core.Path.{_≡_};
+ghost use mathlib.Core.Bool.{cond};
 ghost use mathlib.Core.List.{_∷_, []};
 ghost use Prim.Native.Nat.{_≤_};
-ghost use lib.ListN.{length};
 ghost use Rattle.refusals.specs.Numbers.{depthLimit};
 ghost use Rattle.printer.specs.Layout.{bytes, nl as nlOf};
-ghost use Rattle.printer.specs.Code.{Filled};
+ghost use Rattle.printer.specs.PrivateWriting.{Puts};
 
 // The lesser of two: where the first free byte is, or the end of a room that is too short.
 pub fn least(a: usize, b: usize) -> usize
@@ -18,7 +18,7 @@ pub fn least(a: usize, b: usize) -> usize
 }
 
 pub fn put_byte(b: u8, out: &mut [u8]) -> usize
-    ensures { λ r. ⌜ (r ≡ 1) × Filled (b ∷ []) (now (out .entry)) (now (out .exit)) ⌝ }
+    ensures { λ r. ⌜ Puts (b ∷ []) r (now (out .entry)) (now (out .exit)) ⌝ }
 {
     if out.len() < 1 {
         return 1;
@@ -27,16 +27,19 @@ pub fn put_byte(b: u8, out: &mut [u8]) -> usize
     1
 }
 
-pub fn put(s: &[u8], out: &mut [u8]) -> usize
-    ensures { λ r. ⌜ (r ≡ length (now (s .entry))) × Filled (now (s .entry)) (now (out .entry)) (now (out .exit)) ⌝ }
+pub fn put_unless(none: bool, b: u8, out: &mut [u8]) -> usize
+    ensures { λ r. ⌜ Puts (cond none [] (b ∷ [])) r (now (out .entry)) (now (out .exit)) ⌝ }
 {
-    lists::put(s, out)
+    if none {
+        return 0;
+    }
+    put_byte(b, out)
 }
 
 // A line break and 4 spaces for each indent.
 pub fn nl(indent: usize, out: &mut [u8]) -> usize
     requires { ⌜ indent ≤ depthLimit ⌝ }
-    ensures { λ r. ⌜ (r ≡ length (bytes (nlOf indent))) × Filled (bytes (nlOf indent)) (now (out .entry)) (now (out .exit)) ⌝ }
+    ensures { λ r. ⌜ Puts (bytes (nlOf indent)) r (now (out .entry)) (now (out .exit)) ⌝ }
 {
     let n = 4 * indent + 1;
     if out.len() < n {

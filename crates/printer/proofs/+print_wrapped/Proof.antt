@@ -1,30 +1,35 @@
 -- `printer::print_wrapped`: the depth falls at each call; the laws of each record and of each item are cited.
-use native.Mathlib.Omega.{arith}
 use mathlib.Core.Path.{refl, sym, _∙_}
-use borrow.Author.Needs.{needs}
-use Rattle.table.proofs.Reading.{symbol-in, integer-in, binding-in, list-in}
-use Rattle.printer.proofs.Founds.{bad-found, symbol-found, integer-found, binding-found, list-found}
-use Rattle.printer.proofs.Entries.{integer-value, list-small}
-use Rattle.printer.specs.Layout.{Wrap}
-use Rattle.printer.proofs.Laying.{symbol-out, integer-out, bind-is, bound}
-use Rattle.printer.proofs.Breaks.{line-out, Breaking, breaking-begin, breaking-turn, breaking-step, breaking-whole, breaking-end}
 use Prim.Native.Nat.{ℕ, _+_, _-_, _<_}
+use native.Mathlib.Omega.{arith}
+use borrow.Author.Needs.{needs}
+use lib.Dec.{eqb}
 use borrow.Fn.Kinds.{In}
 use borrow.Fn.PlainCycle.{Measures, is, falls, and}
+use Rattle.table.proofs.Reading.{symbol-in, integer-in, binding-in, list-in}
+use Rattle.printer.specs.Layout.{Wrap}
+use Rattle.printer.specs.PrivateWriting.{laid}
+use Rattle.printer.proofs.CheckedRecords.{bad-found, symbol-found, integer-found, binding-found, list-found}
+use Rattle.printer.proofs.FitEntries.{list-small}
+use Rattle.printer.proofs.ListTexts.{broken, laid-symbol, laid-integer, laid-binding}
+use Rattle.printer.proofs.LayoutBounds.{inner-le}
+use Rattle.printer.proofs.ListWriting.{atom-written, binding-size, binding-written, Filling, filling-begin, item, filling-step, end-size, filling-end}
+use Rattle.printer.proofs.ListWriting.{fitting-written, wrapped-text, wrapped-ready, wrapped-item}
 use Rattle.printer.proofs.print_wrapped.Reads as print-wrapped
 use Rattle.printer.proofs.print_wrapped.Kinds as print-wrapped-kinds
 use Rattle.printer.proofs.+print_wrapped.Lts-print_wrapped as print-wrapped-lts
+use Rattle.printer.proofs.atoms.put_integer.Reads as put-integer-reads
+use Rattle.printer.proofs.atoms.put_name.Reads as put-name-reads
+use Rattle.printer.proofs.atoms.put_symbol.Reads as put-symbol-reads
 use Rattle.printer.proofs.cost.fits.Reads as fits-reads
 use Rattle.printer.proofs.flat.print_flat.Reads as print-flat-reads
-use Rattle.printer.proofs.room.least.Reads as least-reads
-use Rattle.printer.proofs.room.put.Reads as put-reads
-use Rattle.printer.proofs.room.put_byte.Reads as put-byte-reads
+use Rattle.printer.proofs.gaps.item_column.Reads as item-column-reads
+use Rattle.printer.proofs.gaps.item_indent.Reads as item-indent-reads
 use Rattle.printer.proofs.gaps.put_close.Reads as put-close-reads
 use Rattle.printer.proofs.gaps.put_gap.Reads as put-gap-reads
-use Rattle.printer.proofs.put_name.Reads as put-name-reads
+use Rattle.printer.proofs.room.least.Reads as least-reads
+use Rattle.printer.proofs.room.put_byte.Reads as put-byte-reads
 use Rattle.table.proofs.record_at.Reads as record-at-reads
-use Rattle.wide.proofs.put_text.Reads as put-text-reads
-use Rattle.wide.proofs.wide_at.Reads as wide-at-reads
 use Rattle.printer.proofs.+print_wrapped.{statement}
 use Rattle.printer.proofs.+print_wrapped.Tie.{close}
 
@@ -41,10 +46,10 @@ print-wrapped-below t =
 
 -- the contracts of the functions that it calls
 abbrev calls : ℕ → print-wrapped-lts.Claims
-calls t = (record-at-reads.Asked, record-at-reads.Learnt, put-reads.Asked, put-reads.Learnt, wide-at-reads.Asked, wide-at-reads.Learnt, put-text-reads.Asked, put-text-reads.Learnt, put-name-reads.Asked, put-name-reads.Learnt, least-reads.Asked, least-reads.Learnt, print-wrapped-below t, print-wrapped.Post, fits-reads.Asked, fits-reads.Learnt, print-flat-reads.Asked, print-flat-reads.Learnt, put-byte-reads.Asked, put-byte-reads.Learnt, put-gap-reads.Asked, put-gap-reads.Learnt, put-close-reads.Asked, put-close-reads.Learnt)
+calls t = (record-at-reads.Asked, record-at-reads.Learnt, put-symbol-reads.Asked, put-symbol-reads.Learnt, put-integer-reads.Asked, put-integer-reads.Learnt, put-name-reads.Asked, put-name-reads.Learnt, least-reads.Asked, least-reads.Learnt, print-wrapped-below t, print-wrapped.Post, fits-reads.Asked, fits-reads.Learnt, print-flat-reads.Asked, print-flat-reads.Learnt, put-byte-reads.Asked, put-byte-reads.Learnt, put-gap-reads.Asked, put-gap-reads.Learnt, item-indent-reads.Asked, item-indent-reads.Learnt, item-column-reads.Asked, item-column-reads.Learnt, put-close-reads.Asked, put-close-reads.Learnt)
 
 abbrev Inv-loop : print-wrapped-lts.InvT-loop
-Inv-loop t at depth width indent column out₀ n w₀ p₀ i₀ out w p i = Breaking t at depth width indent column n out₀ out w p i
+Inv-loop t at depth width indent column out₀ n w₀ p₀ i₀ out w p i = Filling t at depth n (broken width indent (column + 1)) column out₀ out w p i
 
 abbrev μ-loop : print-wrapped-lts.MeasureT-loop
 μ-loop t at depth width indent column out₀ n w₀ p₀ i₀ out w p i = n - i
@@ -58,38 +63,20 @@ enum-told t c = search needs
 enum-known-node : (t : ℕ) → print-wrapped-lts.Need-enum-known-node (calls t) (print-wrapped-at t) print-wrapped.Post Inv-loop μ-loop
 enum-known-node t c = search needs
 
-add-start : (t : ℕ) → print-wrapped-lts.Need-add-start (calls t) (print-wrapped-at t) print-wrapped.Post Inv-loop μ-loop
-add-start t c = omega (arith, symbol-in _ _ _ _ (c .before .before .before .record-at .ensures) (c .before .node .given .1), c .before .before .before .before .before .before .pre .1)
+put-symbol-requires : (t : ℕ) → print-wrapped-lts.Need-put-symbol-requires (calls t) (print-wrapped-at t) print-wrapped.Post Inv-loop μ-loop
+put-symbol-requires t c κs = let b = symbol-in _ _ _ _ (c .before .before .before .before .record-at .ensures) (c .before .before .node .given .1) in (b .0, omega (arith, c .before .before .before .before .before .before .before .pre .1))
 
-add-end : (t : ℕ) → print-wrapped-lts.Need-add-end (calls t) (print-wrapped-at t) print-wrapped.Post Inv-loop μ-loop
-add-end t c = omega (arith, symbol-in _ _ _ _ (c .before .before .before .record-at .ensures) (c .before .node .given .1), c .before .before .before .before .before .before .pre .1)
-
-sub-put : (t : ℕ) → print-wrapped-lts.Need-sub-put (calls t) (print-wrapped-at t) print-wrapped.Post Inv-loop μ-loop
-sub-put t c = omega (arith, symbol-in _ _ _ _ (c .before .before .before .record-at .ensures) (c .before .node .given .1), c .before .before .before .before .before .before .pre .1)
-
-part-put-start : (t : ℕ) → print-wrapped-lts.Need-part-put-start (calls t) (print-wrapped-at t) print-wrapped.Post Inv-loop μ-loop
-part-put-start t c = omega (arith, symbol-in _ _ _ _ (c .before .before .before .record-at .ensures) (c .before .node .given .1), c .before .before .before .before .before .before .pre .1)
-
-part-put-end : (t : ℕ) → print-wrapped-lts.Need-part-put-end (calls t) (print-wrapped-at t) print-wrapped.Post Inv-loop μ-loop
-part-put-end t c = omega (arith, symbol-in _ _ _ _ (c .before .before .before .record-at .ensures) (c .before .node .given .1), c .before .before .before .before .before .before .pre .1)
-
-put-requires : (t : ℕ) → print-wrapped-lts.Need-put-requires (calls t) (print-wrapped-at t) print-wrapped.Post Inv-loop μ-loop
-put-requires t c κs = search needs
+add-t29 : (t : ℕ) → print-wrapped-lts.Need-add-t29 (calls t) (print-wrapped-at t) print-wrapped.Post Inv-loop μ-loop
+add-t29 t c = omega (arith, symbol-in _ _ _ _ (c .before .before .before .before .before .before .before .record-at .ensures) (c .before .before .before .before .before .node .given .1), c .before .before .before .before .before .before .before .before .before .before .pre .1)
 
 enum-told-2 : (t : ℕ) → print-wrapped-lts.Need-enum-told-2 (calls t) (print-wrapped-at t) print-wrapped.Post Inv-loop μ-loop
 enum-told-2 t c = search needs
 
-add-wide-at : (t : ℕ) → print-wrapped-lts.Need-add-wide-at (calls t) (print-wrapped-at t) print-wrapped.Post Inv-loop μ-loop
-add-wide-at t c = omega (arith, integer-in _ _ _ (c .before .before .record-at .ensures) (c .enum-told2 .given .1), c .before .before .before .before .before .pre .1)
+put-integer-requires : (t : ℕ) → print-wrapped-lts.Need-put-integer-requires (calls t) (print-wrapped-at t) print-wrapped.Post Inv-loop μ-loop
+put-integer-requires t c κs = omega (arith, integer-in _ _ _ (c .before .before .before .record-at .ensures) (c .before .enum-told2 .given .1), c .before .before .before .before .before .before .pre .1)
 
-wide-at-requires : (t : ℕ) → print-wrapped-lts.Need-wide-at-requires (calls t) (print-wrapped-at t) print-wrapped.Post Inv-loop μ-loop
-wide-at-requires t c κs = search needs
-
-put-text-requires : (t : ℕ) → print-wrapped-lts.Need-put-text-requires (calls t) (print-wrapped-at t) print-wrapped.Post Inv-loop μ-loop
-put-text-requires t c κs = search needs
-
-add-t37 : (t : ℕ) → print-wrapped-lts.Need-add-t37 (calls t) (print-wrapped-at t) print-wrapped.Post Inv-loop μ-loop
-add-t37 t c = omega (arith, integer-in _ _ _ (c .before .before .before .before .before .before .before .record-at .ensures) (c .before .before .before .before .before .enum-told2 .given .1), c .before .before .before .before .before .before .before .before .before .before .pre .1)
+add-t32 : (t : ℕ) → print-wrapped-lts.Need-add-t32 (calls t) (print-wrapped-at t) print-wrapped.Post Inv-loop μ-loop
+add-t32 t c = omega (arith, integer-in _ _ _ (c .before .before .before .before .before .before .record-at .ensures) (c .before .before .before .before .enum-told2 .given .1), c .before .before .before .before .before .before .before .before .before .pre .1)
 
 enum-known-node-2 : (t : ℕ) → print-wrapped-lts.Need-enum-known-node-2 (calls t) (print-wrapped-at t) print-wrapped.Post Inv-loop μ-loop
 enum-known-node-2 t c = search needs
@@ -111,13 +98,13 @@ sub-print-wrapped t c = binding-found _ _ _ _ (c .before .before .before .before
 
 add-print-wrapped-2 : (t : ℕ) → print-wrapped-lts.Need-add-print-wrapped-2 (calls t) (print-wrapped-at t) print-wrapped.Post Inv-loop μ-loop
 add-print-wrapped-2 t c =
-    let a = c .before .before .before .before .before .before .before .before in
-    let s = a .before .before .before in
+    let s = c .before .before .before .before .before .before .before .before .before .before .before in
     let r = s .pre .1 in
     let k = c .before .before .before .put-name .ensures in
-    let h = binding-found _ _ _ _ (r .3) (a .record-at .ensures) _ (c .before .before .before .before .before .before .node2 .given .1) in
-    let e = bind-is _ _ Wrap (s .args .width) (s .args .indent) (s .args .column) _ _ _ (k .0) h in
-    omega (arith, e .3, r .4)
+    let h = binding-found _ _ _ _ (r .3) (c .before .before .before .before .before .before .before .before .record-at .ensures) _ (c .before .before .before .before .before .before .node2 .given .1) in
+    let e = binding-size (laid (s .args .width) (s .args .indent) (s .args .column)) (laid (s .args .width) (s .args .indent) (s .args .column + c .before .before .before .put-name .result)) _ _ _ _
+    (λ x. laid-binding _ x (s .args .width) (s .args .indent) (s .args .column) _ (k .0)) h _ (k .0) in
+    omega (arith, e, r .4)
 
 sub-print-wrapped-2 : (t : ℕ) → print-wrapped-lts.Need-sub-print-wrapped-2 (calls t) (print-wrapped-at t) print-wrapped.Post Inv-loop μ-loop
 sub-print-wrapped-2 t c = c .least .ensures .0
@@ -130,25 +117,25 @@ part-print-wrapped-end t c = search needs
 
 print-wrapped-requires : (t : ℕ) → print-wrapped-lts.Need-print-wrapped-requires (calls t) (print-wrapped-at t) print-wrapped.Post Inv-loop μ-loop
 print-wrapped-requires t c κs =
-    let a = c .before .before .before .before .before .before .before .before .before in
-    let s = a .before .before .before in
+    let s = c .before .before .before .before .before .before .before .before .before .before .before .before in
     let r = s .pre .1 in
     let k = c .before .before .before .before .put-name .ensures in
-    let h = binding-found _ _ _ _ (r .3) (a .record-at .ensures) _ (c .before .before .before .before .before .before .before .node2 .given .1) in
-    let e = bind-is _ _ Wrap (s .args .width) (s .args .indent) (s .args .column) _ _ _ (k .0) h in
-    let b = binding-in _ _ _ _ (a .record-at .ensures) (c .before .before .before .before .before .before .before .node2 .given .1) in
+    let h = binding-found _ _ _ _ (r .3) (c .before .before .before .before .before .before .before .before .before .record-at .ensures) _ (c .before .before .before .before .before .before .before .node2 .given .1) in
+    let e = binding-size (laid (s .args .width) (s .args .indent) (s .args .column)) (laid (s .args .width) (s .args .indent) (s .args .column + c .before .before .before .before .put-name .result)) _ _ _ _
+    (λ x. laid-binding _ x (s .args .width) (s .args .indent) (s .args .column) _ (k .0)) h _ (k .0) in
+    let b = binding-in _ _ _ _ (c .before .before .before .before .before .before .before .before .before .record-at .ensures) (c .before .before .before .before .before .before .before .node2 .given .1) in
     let d = h .deeper in
-    (omega arith, (omega arith, r .1, omega arith, h .right, omega (arith, e .3, r .4)))
+    (omega (arith, s .pre .0), (omega arith, r .1, omega arith, h .right, omega (arith, e, r .4)))
 
-add-t42 : (t : ℕ) → print-wrapped-lts.Need-add-t42 (calls t) (print-wrapped-at t) print-wrapped.Post Inv-loop μ-loop
-add-t42 t c =
-    let a = c .before .before .before .before .before .before .before .before .before .before .before .before .before in
-    let s = a .before .before .before in
+add-t35 : (t : ℕ) → print-wrapped-lts.Need-add-t35 (calls t) (print-wrapped-at t) print-wrapped.Post Inv-loop μ-loop
+add-t35 t c =
+    let s = c .before .before .before .before .before .before .before .before .before .before .before .before .before .before .before .before in
     let r = s .pre .1 in
     let k = c .before .before .before .before .before .before .before .before .put-name .ensures in
-    let h = binding-found _ _ _ _ (r .3) (a .record-at .ensures) _ (c .before .before .before .before .before .before .before .before .before .before .before .node2 .given .1) in
-    let e = bind-is _ _ Wrap (s .args .width) (s .args .indent) (s .args .column) _ _ _ (k .0) h in
-    omega (arith, e .3, r .4, c .before .before .before .print-wrapped .ensures .1)
+    let h = binding-found _ _ _ _ (r .3) (c .before .before .before .before .before .before .before .before .before .before .before .before .before .record-at .ensures) _ (c .before .before .before .before .before .before .before .before .before .before .before .node2 .given .1) in
+    let e = binding-size (laid (s .args .width) (s .args .indent) (s .args .column)) (laid (s .args .width) (s .args .indent) (s .args .column + c .before .before .before .before .before .before .before .before .put-name .result)) _ _ _ _
+    (λ x. laid-binding _ x (s .args .width) (s .args .indent) (s .args .column) _ (k .0)) h _ (k .0) in
+    omega (arith, e, r .4, c .before .before .before .print-wrapped .ensures .1 .0)
 
 enum-known-node-3 : (t : ℕ) → print-wrapped-lts.Need-enum-known-node-3 (calls t) (print-wrapped-at t) print-wrapped.Post Inv-loop μ-loop
 enum-known-node-3 t c = search needs
@@ -164,13 +151,10 @@ same-length t c = search needs
 
 returns : (t : ℕ) → print-wrapped-lts.Need-returns (calls t) (print-wrapped-at t) print-wrapped.Post Inv-loop μ-loop
 returns t c =
-    let a = c .before .before .before .before .before .before .before .before .before in
-    let s = a .before .before .before in
+    let s = c .before .before .before .before .before .before .before .before .before .before .before .before in
     let r = s .pre .1 in
-    let h = list-found _ _ _ _ (r .3) (a .record-at .ensures) _ (c .before .before .before .before .before .before .before .node3 .given .1) in
-    let f = c .before .before .before .before .before .fits2 .ensures (s .args .depth) (r .3) in
-    let e = c .before .before .print-flat .ensures in
-    line-out _ _ _ _ _ _ _ _ (s .args .out .now) _ h (sym f ∙ c .before .before .before .before .if1 .taken) (e .0) (e .1 (s .args .width) (s .args .indent) (s .args .column))
+    let h = list-found _ _ _ _ (r .3) (c .before .before .before .before .before .before .before .before .before .record-at .ensures) _ (c .before .before .before .before .before .before .before .node3 .given .1) in
+    fitting-written _ _ _ (s .args .width) (s .args .indent) (s .args .column) h (sym (c .before .before .before .before .before .fits2 .ensures (s .args .depth) (r .3)) ∙ c .before .before .before .before .if1 .taken) _ _ (s .args .out .now) _ (c .before .before .print-flat .ensures)
 
 put-byte-requires : (t : ℕ) → print-wrapped-lts.Need-put-byte-requires (calls t) (print-wrapped-at t) print-wrapped.Post Inv-loop μ-loop
 put-byte-requires t c κs = search needs
@@ -180,19 +164,16 @@ add-p t c = omega (arith, list-in _ _ _ _ (c .before .before .before .before .be
 
 loop-holds : (t : ℕ) → print-wrapped-lts.Need-loop-holds (calls t) (print-wrapped-at t) print-wrapped.Post Inv-loop μ-loop
 loop-holds t c =
-    let a = c .before .before .before .before .before .before .before .before .before in
-    let s = a .before .before .before in
+    let s = c .before .before .before .before .before .before .before .before .before .before .before .before in
     let r = s .pre .1 in
-    let h = list-found _ _ _ _ (r .3) (a .record-at .ensures) _ (c .before .before .before .before .before .before .before .node3 .given .1) in
-    let f = c .before .before .before .before .before .fits2 .ensures (s .args .depth) (r .3) in
-    let b = list-in _ _ _ _ (a .record-at .ensures) (c .before .before .before .before .before .before .before .node3 .given .1) in
-    breaking-begin _ _ _ _ _ _ _ _ _ h (sym f ∙ c .before .before .before .before .if1 .left) (r .4) (omega arith) (c .before .before .put-byte .ensures .0)
+    let h = list-found _ _ _ _ (r .3) (c .before .before .before .before .before .before .before .before .before .record-at .ensures) _ (c .before .before .before .before .before .before .before .node3 .given .1) in
+    let f = wrapped-text _ _ _ (s .args .width) (s .args .indent) (s .args .column) h (sym (c .before .before .before .before .before .fits2 .ensures (s .args .depth) (r .3)) ∙ c .before .before .before .before .if1 .left) in
+    let b = list-in _ _ _ _ (c .before .before .before .before .before .before .before .before .before .record-at .ensures) (c .before .before .before .before .before .before .before .node3 .given .1) in
+    filling-begin (s .args .t .now) (s .args .at) (s .args .depth) _ (broken (s .args .width) (s .args .indent) (s .args .column + 1)) (s .args .column)
+    (laid (s .args .width) (s .args .indent) (s .args .column)) f _ _ h (r .4) (omega arith) (c .before .before .put-byte .ensures .0)
 
 least-requires-2 : (t : ℕ) → print-wrapped-lts.Need-least-requires-2 (calls t) (print-wrapped-at t) print-wrapped.Post Inv-loop μ-loop
 least-requires-2 t c κs = search needs
-
-add-put-gap : (t : ℕ) → print-wrapped-lts.Need-add-put-gap (calls t) (print-wrapped-at t) print-wrapped.Post Inv-loop μ-loop
-add-put-gap t c = omega (arith, c .before .before .before .before .before .before .before .before .before .before .before .before .before .before .before .pre .1)
 
 sub-put-gap : (t : ℕ) → print-wrapped-lts.Need-sub-put-gap (calls t) (print-wrapped-at t) print-wrapped.Post Inv-loop μ-loop
 sub-put-gap t c = c .least2 .ensures .0
@@ -204,58 +185,68 @@ part-put-gap-end : (t : ℕ) → print-wrapped-lts.Need-part-put-gap-end (calls 
 part-put-gap-end t c = search needs
 
 put-gap-requires : (t : ℕ) → print-wrapped-lts.Need-put-gap-requires (calls t) (print-wrapped-at t) print-wrapped.Post Inv-loop μ-loop
-put-gap-requires t c κs = let r = c .before .before .before .before .before .before .before .before .before .before .before .before .before .before .before .before .pre .1 in omega (arith, c .before .before .before .loop .inv .laying .deeper)
+put-gap-requires t c κs = let r = c .before .before .before .before .before .before .before .before .before .before .before .before .before .before .before .before .pre .1 in omega (arith, c .before .before .before .loop .inv .deeper, r .2)
 
 add-k : (t : ℕ) → print-wrapped-lts.Need-add-k (calls t) (print-wrapped-at t) print-wrapped.Post Inv-loop μ-loop
 add-k t c =
-    let v = c .before .before .before .before .before .before .before .loop .inv in
-    let g = c .before .before .before .put-gap .ensures in
-    let u = breaking-turn v (c .before .before .before .before .before .before .loop-test .taken) _ _ _ (g .0) (g .1) (g .2) in
-    omega (arith, u .room, v .laying .small)
+    let v = c .before .before .before .before .before .before .loop .inv in
+    omega (arith, item v (c .before .before .before .before .before .loop-test .taken) .room, v .small, c .before .before .put-gap .ensures .0)
 
 least-requires-3 : (t : ℕ) → print-wrapped-lts.Need-least-requires-3 (calls t) (print-wrapped-at t) print-wrapped.Post Inv-loop μ-loop
 least-requires-3 t c κs = search needs
 
 sub-print-wrapped-3 : (t : ℕ) → print-wrapped-lts.Need-sub-print-wrapped-3 (calls t) (print-wrapped-at t) print-wrapped.Post Inv-loop μ-loop
-sub-print-wrapped-3 t c = c .before .before .before .before .before .before .before .before .loop .inv .laying .deeper
+sub-print-wrapped-3 t c = c .before .before .before .before .before .before .before .loop .inv .deeper
+
+item-indent-requires : (t : ℕ) → print-wrapped-lts.Need-item-indent-requires (calls t) (print-wrapped-at t) print-wrapped.Post Inv-loop μ-loop
+item-indent-requires t c κs = omega (arith, c .before .before .before .before .before .before .before .before .before .before .before .before .before .before .before .before .before .before .before .before .pre .1)
+
+add-item-column : (t : ℕ) → print-wrapped-lts.Need-add-item-column (calls t) (print-wrapped-at t) print-wrapped.Post Inv-loop μ-loop
+add-item-column t c = omega (arith, c .before .before .before .before .before .before .before .before .before .before .before .before .before .before .before .before .before .before .before .before .before .pre .1)
+
+item-column-requires : (t : ℕ) → print-wrapped-lts.Need-item-column-requires (calls t) (print-wrapped-at t) print-wrapped.Post Inv-loop μ-loop
+item-column-requires t c κs = omega (arith, c .before .before .before .before .before .before .before .before .before .before .before .before .before .before .before .before .before .before .before .before .before .pre .1)
 
 sub-print-wrapped-4 : (t : ℕ) → print-wrapped-lts.Need-sub-print-wrapped-4 (calls t) (print-wrapped-at t) print-wrapped.Post Inv-loop μ-loop
-sub-print-wrapped-4 t c = c .least3 .ensures .0
+sub-print-wrapped-4 t c = c .before .before .least3 .ensures .0
 
 part-print-wrapped-start-2 : (t : ℕ) → print-wrapped-lts.Need-part-print-wrapped-start-2 (calls t) (print-wrapped-at t) print-wrapped.Post Inv-loop μ-loop
-part-print-wrapped-start-2 t c = c .least3 .ensures .0
+part-print-wrapped-start-2 t c = c .before .before .least3 .ensures .0
 
 part-print-wrapped-end-2 : (t : ℕ) → print-wrapped-lts.Need-part-print-wrapped-end-2 (calls t) (print-wrapped-at t) print-wrapped.Post Inv-loop μ-loop
 part-print-wrapped-end-2 t c = search needs
 
 print-wrapped-requires-2 : (t : ℕ) → print-wrapped-lts.Need-print-wrapped-requires-2 (calls t) (print-wrapped-at t) print-wrapped.Post Inv-loop μ-loop
 print-wrapped-requires-2 t c κs =
-    let v = c .before .before .before .before .before .before .before .before .before .loop .inv in
-    let g = c .before .before .before .before .before .put-gap .ensures in
-    let u = breaking-turn v (c .before .before .before .before .before .before .before .before .loop-test .taken) _ _ _ (g .0) (g .1) (g .2) in
-    let s = c .before .before .before .before .before .before .before .before .before .before .before .before .before .before .before .before .before .before .before .before .before .before in
+    let v = c .before .before .before .before .before .before .before .before .before .before .loop .inv in
+    let l = c .before .before .before .before .before .before .before .before .before .loop-test .taken in
+    let s = c .before .before .before .before .before .before .before .before .before .before .before .before .before .before .before .before .before .before .before .before .before .before .before in
     let r = s .pre .1 in
-    let d = v .laying .deeper in
-    (omega (arith, s .pre .0), (v .laying .within, r .1, omega (arith, u .step), u .right, omega (arith, u .room, u .start, v .laying .small)))
+    let d = v .deeper in
+    let j = c .before .before .item-indent .ensures in
+    (omega (arith, s .pre .0), (v .within, r .1, omega (arith, r .2, j, inner-le (eqb (c .before .before .before .before .before .before .before .before .before .before .loop .i) 0) Wrap (s .args .indent)), item v l .right, wrapped-ready (s .args .width) (s .args .indent) v l _ _ j (c .before .item-column .ensures)))
 
 add-w : (t : ℕ) → print-wrapped-lts.Need-add-w (calls t) (print-wrapped-at t) print-wrapped.Post Inv-loop μ-loop
 add-w t c =
-    let v = c .before .before .before .before .before .before .before .before .before .before .before .before .before .loop .inv in
-    let g = c .before .before .before .before .before .before .before .before .before .put-gap .ensures in
-    let u = breaking-turn v (c .before .before .before .before .before .before .before .before .before .before .before .before .loop-test .taken) _ _ _ (g .0) (g .1) (g .2) in
-    omega (arith, u .room, v .laying .small, c .before .before .before .print-wrapped2 .ensures .1)
+    let v = c .before .before .before .before .before .before .before .before .before .before .before .before .before .before .loop .inv in
+    let l = c .before .before .before .before .before .before .before .before .before .before .before .before .before .loop-test .taken in
+    let s = c .before .before .before .before .before .before .before .before .before .before .before .before .before .before .before .before .before .before .before .before .before .before .before .before .before .before .before .args in
+    let u = wrapped-item (s .width) (s .indent) v l _ _ (c .before .before .before .before .before .before .item-indent .ensures) (c .before .before .before .before .before .item-column .ensures) _ _ _ _ (c .before .before .before .print-wrapped2 .ensures) in
+    omega (arith, item v l .room, v .small, u .1 .0, c .before .before .before .before .before .before .before .before .before .before .put-gap .ensures .0)
 
 add-i : (t : ℕ) → print-wrapped-lts.Need-add-i (calls t) (print-wrapped-at t) print-wrapped.Post Inv-loop μ-loop
-add-i t c =
-    omega (arith, c .before .before .before .before .before .before .before .before .before .before .before .before .loop-test .taken, list-small _ _ _ _ (λ i. (c .before .before .before .before .before .before .before .before .before .before .before .before .before .before .before .before .before .before .before .before .before .before .before .before .before .shared-slice-known .given i) .fits) (c .before .before .before .before .before .before .before .before .before .before .before .before .before .before .before .before .before .before .before .before .before .before .before .record-at .ensures) (c .before .before .before .before .before .before .before .before .before .before .before .before .before .before .before .before .before .before .before .before .before .node3 .given .1))
+add-i t c = omega (arith, c .before .before .before .before .before .before .before .before .before .before .before .before .before .loop-test .taken, list-small _ _ _ _ (λ i. (c .before .before .before .before .before .before .before .before .before .before .before .before .before .before .before .before .before .before .before .before .before .before .before .before .before .before .shared-slice-known .given i) .fits) (c .before .before .before .before .before .before .before .before .before .before .before .before .before .before .before .before .before .before .before .before .before .before .before .before .record-at .ensures) (c .before .before .before .before .before .before .before .before .before .before .before .before .before .before .before .before .before .before .before .before .before .before .node3 .given .1))
 
 loop-less : (t : ℕ) → print-wrapped-lts.Need-loop-less (calls t) (print-wrapped-at t) print-wrapped.Post Inv-loop μ-loop
-loop-less t c = omega (arith, c .before .before .before .before .before .before .before .before .before .before .before .before .loop-test .taken)
+loop-less t c = omega (arith, c .before .before .before .before .before .before .before .before .before .before .before .before .before .loop-test .taken)
 
 loop-again : (t : ℕ) → print-wrapped-lts.Need-loop-again (calls t) (print-wrapped-at t) print-wrapped.Post Inv-loop μ-loop
 loop-again t c =
-    let g = c .before .before .before .before .before .before .before .before .before .put-gap .ensures in
-    breaking-step (c .before .before .before .before .before .before .before .before .before .before .before .before .before .loop .inv) (c .before .before .before .before .before .before .before .before .before .before .before .before .loop-test .taken) _ _ _ _ _ _ _ _ _ (g .0) (g .1) (g .2) (c .before .before .before .before .before .before .before .before .before .before .before .least2 .ensures .1) (g .3) _ refl (c .before .before .before .before .before .before .before .before .out7 .given .1) (c .before .before .before .before .before .least3 .ensures .1) (c .before .before .before .print-wrapped2 .ensures) (c .before .before .out8 .given .1)
+    let v = c .before .before .before .before .before .before .before .before .before .before .before .before .before .before .loop .inv in
+    let l = c .before .before .before .before .before .before .before .before .before .before .before .before .before .loop-test .taken in
+    let s = c .before .before .before .before .before .before .before .before .before .before .before .before .before .before .before .before .before .before .before .before .before .before .before .before .before .before .before .args in
+    let u = wrapped-item (s .width) (s .indent) v l _ _ (c .before .before .before .before .before .before .item-indent .ensures) (c .before .before .before .before .before .item-column .ensures) _ _ _ _ (c .before .before .before .print-wrapped2 .ensures) in
+    filling-step v l _ _ _ _ _ _ _ _ (c .before .before .before .before .before .before .before .before .before .before .before .before .least2 .ensures .1) (c .before .before .before .before .before .before .before .before .before .before .put-gap .ensures) refl (c .before .before .before .before .before .before .before .before .before .out7 .given .1) (c .before .before .before .before .before .before .before .least3 .ensures .1) u (c .before .before .out8 .given .1)
 
 least-requires-4 : (t : ℕ) → print-wrapped-lts.Need-least-requires-4 (calls t) (print-wrapped-at t) print-wrapped.Post Inv-loop μ-loop
 least-requires-4 t c κs = search needs
@@ -272,76 +263,63 @@ part-put-close-end t c = search needs
 put-close-requires : (t : ℕ) → print-wrapped-lts.Need-put-close-requires (calls t) (print-wrapped-at t) print-wrapped.Post Inv-loop μ-loop
 put-close-requires t c κs = let r = c .before .before .before .before .before .before .before .before .before .before .before .before .before .before .before .before .pre .1 in omega arith
 
-add-t63 : (t : ℕ) → print-wrapped-lts.Need-add-t63 (calls t) (print-wrapped-at t) print-wrapped.Post Inv-loop μ-loop
-add-t63 t c =
+add-t60 : (t : ℕ) → print-wrapped-lts.Need-add-t60 (calls t) (print-wrapped-at t) print-wrapped.Post Inv-loop μ-loop
+add-t60 t c =
     let v = c .before .before .before .before .before .before .loop .inv in
-    let u = breaking-whole v (c .before .before .before .before .before .loop-test .left) _ (c .before .before .put-close .ensures .0) in
-    omega (arith, u .whole, v .laying .small)
+    omega (arith, end-size v (c .before .before .before .before .before .loop-test .left) _ (c .before .before .put-close .ensures .0), v .small)
 
 returns-2 : (t : ℕ) → print-wrapped-lts.Need-returns-2 (calls t) (print-wrapped-at t) print-wrapped.Post Inv-loop μ-loop
-returns-2 t c = absurd (bad-found _ _ _ _ (c .before .before .before .before .before .pre .1 .3) (c .before .before .record-at .ensures) (c .enum-told .given .1))
+returns-2 t c = absurd (bad-found _ _ _ _ (c .before .before .before .before .before .pre .1 .3) (c .before .before .record-at .ensures) _ (c .enum-told .given .1))
 
 same-length-2 : (t : ℕ) → print-wrapped-lts.Need-same-length-2 (calls t) (print-wrapped-at t) print-wrapped.Post Inv-loop μ-loop
 same-length-2 t c = search needs
 
 returns-3 : (t : ℕ) → print-wrapped-lts.Need-returns-3 (calls t) (print-wrapped-at t) print-wrapped.Post Inv-loop μ-loop
 returns-3 t c =
-    let a = c .before .before .before .before .before .before .before .before in
-    let s = a .before .before .before in
-    let e = c .before .before .put .ensures in
-    let y = symbol-found _ _ _ _ (s .pre .1 .3) (a .record-at .ensures) _ (c .before .before .before .before .before .before .node .given .1) in
-    let o = symbol-out _ _ _ _ Wrap (s .args .width) (s .args .indent) (s .args .column) _ (s .args .out .now) _ y (e .0) (e .1) in
-    (o .0 .0, o .0 .1, o .1)
+    let s = c .before .before .before .before .before .before .before .before .before .before in
+    let f = symbol-found _ _ _ _ (s .pre .1 .3) (c .before .before .before .before .before .before .before .record-at .ensures) _ (c .before .before .before .before .before .node .given .1) in
+    atom-written (laid (s .args .width) (s .args .indent) (s .args .column)) _ _ _ _ _ (s .args .out .now) _ f (laid-symbol _ _ (s .args .indent) (s .args .column)) (c .before .before .put-symbol .ensures)
 
 same-length-3 : (t : ℕ) → print-wrapped-lts.Need-same-length-3 (calls t) (print-wrapped-at t) print-wrapped.Post Inv-loop μ-loop
 same-length-3 t c = search needs
 
 returns-4 : (t : ℕ) → print-wrapped-lts.Need-returns-4 (calls t) (print-wrapped-at t) print-wrapped.Post Inv-loop μ-loop
 returns-4 t c =
-    let a = c .before .before .before .before .before .before .before in
-    let s = a .before .before .before in
-    let e = c .before .before .put-text .ensures in
-    let r = c .before .before .before .before .before .enum-told2 .given .1 in
-    let z = integer-value (s .args .t .now) (s .args .at) _ (integer-in _ _ _ (a .record-at .ensures) r) (c .before .before .before .before .wide-at .ensures) in
-    let y = integer-found _ _ _ _ (s .pre .1 .3) (a .record-at .ensures) r in
-    let o = integer-out _ _ _ _ Wrap (s .args .width) (s .args .indent) (s .args .column) _ (s .args .out .now) _ y z (e .0) (e .1) in
-    (o .0 .0, o .0 .1, o .1)
+    let s = c .before .before .before .before .before .before .before .before .before in
+    let f = integer-found _ _ _ _ (s .pre .1 .3) (c .before .before .before .before .before .before .record-at .ensures) (c .before .before .before .before .enum-told2 .given .1) in
+    atom-written (laid (s .args .width) (s .args .indent) (s .args .column)) _ _ _ _ _ (s .args .out .now) _ f (laid-integer _ _ (s .args .indent) (s .args .column)) (c .before .before .put-integer .ensures)
 
 same-length-4 : (t : ℕ) → print-wrapped-lts.Need-same-length-4 (calls t) (print-wrapped-at t) print-wrapped.Post Inv-loop μ-loop
 same-length-4 t c = search needs
 
 returns-5 : (t : ℕ) → print-wrapped-lts.Need-returns-5 (calls t) (print-wrapped-at t) print-wrapped.Post Inv-loop μ-loop
 returns-5 t c =
-    let a = c .before .before .before .before .before .before .before .before .before .before .before .before .before in
-    let s = a .before .before .before in
+    let s = c .before .before .before .before .before .before .before .before .before .before .before .before .before .before .before .before in
     let k = c .before .before .before .before .before .before .before .before .put-name .ensures in
-    let e = c .before .before .before .print-wrapped .ensures in
-    let h = binding-found _ _ _ _ (s .pre .1 .3) (a .record-at .ensures) _ (c .before .before .before .before .before .before .before .before .before .before .before .node2 .given .1) in
-    let o = bound _ _ Wrap (s .args .width) (s .args .indent) (s .args .column) _ _ _ (k .0) h _ _ _ _ (s .args .out .now) _ _ (k .1) (c .before .before .before .before .before .least .ensures .1) ((e .0, e .1, refl), e .2) in
-    (o .0 .0, o .0 .1, o .1)
+    let h = binding-found _ _ _ _ (s .pre .1 .3) (c .before .before .before .before .before .before .before .before .before .before .before .before .before .record-at .ensures) _ (c .before .before .before .before .before .before .before .before .before .before .before .node2 .given .1) in
+    binding-written (laid (s .args .width) (s .args .indent) (s .args .column)) (laid (s .args .width) (s .args .indent) (s .args .column + c .before .before .before .before .before .before .before .before .put-name .result)) _ _ _ _
+    (λ x. laid-binding _ x (s .args .width) (s .args .indent) (s .args .column) _ (k .0)) h _ _ _ _ (s .args .out .now) _ _ k (c .before .before .before .before .before .least .ensures .1) (c .before .before .before .print-wrapped .ensures)
 
 same-length-5 : (t : ℕ) → print-wrapped-lts.Need-same-length-5 (calls t) (print-wrapped-at t) print-wrapped.Post Inv-loop μ-loop
-same-length-5 t c = search needs
+same-length-5 t c = omega (arith, c .before .before .before .before .before .before .loop .inv .kept, c .before .out9 .given .1)
 
 returns-6 : (t : ℕ) → print-wrapped-lts.Need-returns-6 (calls t) (print-wrapped-at t) print-wrapped.Post Inv-loop μ-loop
 returns-6 t c =
-    let a = c .before .before .before .before .before .before .before .before .before .before .before .before .before .before .before .before in
-    let s = a .before .before .before in
+    let s = c .before .before .before .before .before .before .before .before .before .before .before .before .before .before .before .before .before .before .before in
     let r = s .pre .1 in
-    let h = list-found _ _ _ _ (r .3) (a .record-at .ensures) _ (c .before .before .before .before .before .before .before .before .before .before .before .before .before .before .node3 .given .1) in
-    let f = c .before .before .before .before .before .before .before .before .before .before .before .before .fits2 .ensures (s .args .depth) (r .3) in
-    let e = c .before .before .put-close .ensures in
-    breaking-end (c .before .before .before .before .before .before .loop .inv) (c .before .before .before .before .before .loop-test .left) (s .args .out .now) h (sym f ∙ c .before .before .before .before .before .before .before .before .before .before .before .if1 .left) (c .before .before .before .before .before .before .before .before .before .put-byte .ensures .1) _ _ _ (e .0)
-    (c .before .before .before .before .least4 .ensures .1) (e .1)
+    let h = list-found _ _ _ _ (r .3) (c .before .before .before .before .before .before .before .before .before .before .before .before .before .before .before .before .record-at .ensures) _ (c .before .before .before .before .before .before .before .before .before .before .before .before .before .before .node3 .given .1) in
+    let f = wrapped-text _ _ _ (s .args .width) (s .args .indent) (s .args .column) h (sym (c .before .before .before .before .before .before .before .before .before .before .before .before .fits2 .ensures (s .args .depth) (r .3)) ∙ c .before .before .before .before .before .before .before .before .before .before .before .if1 .left) in
+    filling-end (c .before .before .before .before .before .before .loop .inv) (c .before .before .before .before .before .loop-test .left) (laid (s .args .width) (s .args .indent) (s .args .column)) (s .args .out .now) h f _ (c .before .before .before .before .before .before .before .before .before .put-byte .ensures) _ _ _ (c .before .before .before .before .least4 .ensures .1)
+    (c .before .before .put-close .ensures)
 
 pub +print-wrapped-spec : {M : Type 1} → statement M
 +print-wrapped-spec = close μ-print-wrapped λ t. print-wrapped-lts.spec (calls t) (print-wrapped-at t) print-wrapped.Post Inv-loop μ-loop
-    (record-at-requires t) (enum-told t) (enum-known-node t) (add-start t) (add-end t) (sub-put t) (part-put-start t) (part-put-end t)
-    (put-requires t) (enum-told-2 t) (add-wide-at t) (wide-at-requires t) (put-text-requires t) (add-t37 t) (enum-known-node-2 t)
-    (put-name-requires t) (least-requires t) (add-print-wrapped t) (sub-print-wrapped t) (add-print-wrapped-2 t) (sub-print-wrapped-2 t)
-    (part-print-wrapped-start t) (part-print-wrapped-end t) (print-wrapped-requires t) (add-t42 t) (enum-known-node-3 t) (fits-requires t)
-    (print-flat-requires t) (same-length t) (returns t) (put-byte-requires t) (add-p t) (loop-holds t) (least-requires-2 t) (add-put-gap t)
+    (record-at-requires t) (enum-told t) (enum-known-node t) (put-symbol-requires t) (add-t29 t) (enum-told-2 t) (put-integer-requires t) (add-t32 t)
+    (enum-known-node-2 t) (put-name-requires t) (least-requires t) (add-print-wrapped t) (sub-print-wrapped t) (add-print-wrapped-2 t)
+    (sub-print-wrapped-2 t) (part-print-wrapped-start t) (part-print-wrapped-end t) (print-wrapped-requires t) (add-t35 t) (enum-known-node-3 t)
+    (fits-requires t) (print-flat-requires t) (same-length t) (returns t) (put-byte-requires t) (add-p t) (loop-holds t) (least-requires-2 t)
     (sub-put-gap t) (part-put-gap-start t) (part-put-gap-end t) (put-gap-requires t) (add-k t) (least-requires-3 t) (sub-print-wrapped-3 t)
-    (sub-print-wrapped-4 t) (part-print-wrapped-start-2 t) (part-print-wrapped-end-2 t) (print-wrapped-requires-2 t) (add-w t) (add-i t) (loop-less t)
-    (loop-again t) (least-requires-4 t) (sub-put-close t) (part-put-close-start t) (part-put-close-end t) (put-close-requires t) (add-t63 t)
-    (returns-2 t) (same-length-2 t) (returns-3 t) (same-length-3 t) (returns-4 t) (same-length-4 t) (returns-5 t) (same-length-5 t) (returns-6 t)
+    (item-indent-requires t) (add-item-column t) (item-column-requires t) (sub-print-wrapped-4 t) (part-print-wrapped-start-2 t)
+    (part-print-wrapped-end-2 t) (print-wrapped-requires-2 t) (add-w t) (add-i t) (loop-less t) (loop-again t) (least-requires-4 t) (sub-put-close t)
+    (part-put-close-start t) (part-put-close-end t) (put-close-requires t) (add-t60 t) (returns-2 t) (same-length-2 t) (returns-3 t) (same-length-3 t)
+    (returns-4 t) (same-length-4 t) (returns-5 t) (same-length-5 t) (returns-6 t)

@@ -1,7 +1,7 @@
 -- `printer::print`: measured, and then written where the room is enough.
 use mathlib.Core.Bool.{true}
 use Rattle.table.specs.Decoding.{tableOf}
-use Rattle.printer.proofs.Pages.{print-right, print-no, print-short, print-text}
+use Rattle.printer.proofs.PageWriting.{print-right, print-no, print-short, print-text}
 use borrow.Author.Needs.{needs}
 use Rattle.printer.proofs.print.Statement.{statement}
 use Rattle.printer.proofs.print.Tie as tie

@@ -1,6 +1,7 @@
 -- `printer::gaps::put_close`: one line for each kind of end.
-use Rattle.printer.proofs.Spaces.{close-none, close-break}
-use Rattle.printer.proofs.Rooms.{broken-size}
+use mathlib.Core.List.{_∷_, []}
+use Rattle.printer.specs.Layout.{bytes, nl}
+use Rattle.printer.proofs.ShortRooms.{puts-both, broken-size}
 use Prim.Native.Nat.{_*_}
 use native.Mathlib.Omega.{arith}
 use borrow.Author.Needs.{needs}
@@ -14,9 +15,7 @@ same-length : tie.Need-same-length
 same-length c = search needs
 
 returns : tie.Need-returns
-returns c =
-    let a = c .before .before in
-    close-none _ _ (a .before .before .before .before .args .out .now) (a .before .before .if1 .taken) _ _ (a .put-byte .ensures .0) (a .put-byte .ensures .1)
+returns c = let a = c .before .before in rw (a .before .before .if1 .taken) (a .put-byte .ensures)
 
 nl-requires : tie.Need-nl-requires
 nl-requires c κs = search needs
@@ -48,9 +47,9 @@ returns-2 : tie.Need-returns-2
 returns-2 c =
     let a = c .before .before in
     let n = a .before .before .before .before .before in
-    let e = a .put-byte2 .ensures in
-    close-break _ _ (n .before .before .before .before .args .out .now) (n .before .before .if1 .left) _ _ _ _ _ (n .nl .ensures .0) (n .nl .ensures .1)
-    (a .before .before .least .ensures .1) (e .0) (e .1)
+    let s = n .before .before .before .before .args in
+    rw (n .before .before .if1 .left)
+    (puts-both (bytes (nl (s .indent))) (41 ∷ []) (s .out .now) _ _ _ _ _ (n .nl .ensures) (a .before .before .least .ensures .1) (a .put-byte2 .ensures))
 
 pub put-close-spec : {M : Type 1} → statement M
 put-close-spec =

@@ -5,32 +5,35 @@ use Prim.Native.Nat.{ℕ, _+_, _*_, _-_, _≤_, _<_}
 use native.Mathlib.Omega.{arith}
 use native.Mathlib.Nat.{pos-of-ne-zero}
 use borrow.Author.Needs.{needs}
+use borrow.Fn.Kinds.{In}
+use borrow.Fn.PlainCycle.{Measures, is, falls, and}
 use lib.Dec.{eqb}
+use Rattle.refusals.specs.Numbers.{depthLimit}
 use Rattle.wide.proofs.Numbers.{Bytes}
+use Rattle.records.specs.Records.{headLen}
 use Rattle.table.specs.declared.Step.the-variants as step
 use Rattle.table.proofs.Steps.{step-in}
 use Rattle.printer.specs.Layout.{Wrap}
-use Rattle.printer.proofs.Bounds.{inner-le}
-use Rattle.printer.proofs.Walks.{got-tree, got-name, small, at-fault, at-symbol, at-integer, binding-stop, binding-good, at-list, list-few}
-use Rattle.printer.proofs.Walks.{Walk, walk-begin, walk-name, walk-tree, walk-stop, walk-line, walk-wide, none-sized, column-le, breaks-fit, laid-fit}
-use borrow.Fn.Kinds.{In}
-use borrow.Fn.PlainCycle.{Measures, is, falls, and}
+use Rattle.printer.proofs.LayoutBounds.{inner-le, item-column-within}
+use Rattle.printer.proofs.MeasuringWalk.{got-tree, got-name, small, at-fault, at-symbol, at-integer, binding-stop, binding-good, at-list, list-few}
+use Rattle.printer.proofs.MeasuringWalk.{Walk, walk-begin, walk-name, walk-tree, walk-stop, walk-line, walk-wide, none-sized, breaks-fit, laid-fit}
 use Rattle.printer.proofs.measure.measure_list.Reads as measure-list
 use Rattle.printer.proofs.measure.measure_list.Kinds as measure-list-kinds
 use Rattle.printer.proofs.measure.+measure_list+measure_tree.Lts-measure_list as measure-list-lts
 use Rattle.printer.proofs.measure.measure_tree.Reads as measure-tree
 use Rattle.printer.proofs.measure.measure_tree.Kinds as measure-tree-kinds
 use Rattle.printer.proofs.measure.+measure_list+measure_tree.Lts-measure_tree as measure-tree-lts
+use Rattle.printer.proofs.cost.fits_in.Reads as fits-in-reads
+use Rattle.printer.proofs.gaps.item_column.Reads as item-column-reads
+use Rattle.printer.proofs.gaps.item_indent.Reads as item-indent-reads
 use Rattle.printer.proofs.measure.atom.Reads as atom-reads
-use Rattle.printer.proofs.measure.begins.Reads as begins-reads
-use Rattle.printer.proofs.measure.inner.Reads as inner-reads
-use Rattle.table.proofs.past_symbol.Reads as past-symbol-reads
 use Rattle.printer.proofs.measure.stopped.Reads as stopped-reads
-use Rattle.printer.proofs.measure.+measure_list+measure_tree.{statement}
-use Rattle.printer.proofs.measure.+measure_list+measure_tree.Tie.{close}
+use Rattle.table.proofs.past_symbol.Reads as past-symbol-reads
 use Rattle.table.proofs.step_at.Reads as step-at-reads
 use Rattle.wide.proofs.text_len.Reads as text-len-reads
 use Rattle.wide.proofs.wide_at.Reads as wide-at-reads
+use Rattle.printer.proofs.measure.+measure_list+measure_tree.{statement}
+use Rattle.printer.proofs.measure.+measure_list+measure_tree.Tie.{close}
 
 abbrev μ-measure-list : Measures 1 measure-list-kinds.ps ℕ
 μ-measure-list κs a = 2 * a .1 .1 .1 .0 + 1
@@ -64,36 +67,10 @@ measure-tree-below t =
 
 -- the contracts of the functions that each calls
 abbrev measure-list-calls : ℕ → measure-list-lts.Claims
-measure-list-calls t = (
-  past-symbol-reads.Asked,
-  past-symbol-reads.Learnt,
-  inner-reads.Asked,
-  inner-reads.Learnt,
-  begins-reads.Asked,
-  begins-reads.Learnt,
-  measure-tree-below t,
-  measure-tree.Post,
-  stopped-reads.Asked,
-  stopped-reads.Learnt,
-)
+measure-list-calls t = (past-symbol-reads.Asked, past-symbol-reads.Learnt, item-indent-reads.Asked, item-indent-reads.Learnt, item-column-reads.Asked, item-column-reads.Learnt, measure-tree-below t, measure-tree.Post, stopped-reads.Asked, stopped-reads.Learnt, fits-in-reads.Asked, fits-in-reads.Learnt)
 
 abbrev measure-tree-calls : ℕ → measure-tree-lts.Claims
-measure-tree-calls t = (
-  step-at-reads.Asked,
-  step-at-reads.Learnt,
-  stopped-reads.Asked,
-  stopped-reads.Learnt,
-  atom-reads.Asked,
-  atom-reads.Learnt,
-  wide-at-reads.Asked,
-  wide-at-reads.Learnt,
-  text-len-reads.Asked,
-  text-len-reads.Learnt,
-  measure-tree-below t,
-  measure-tree.Post,
-  measure-list-below t,
-  measure-list.Post,
-)
+measure-tree-calls t = (step-at-reads.Asked, step-at-reads.Learnt, stopped-reads.Asked, stopped-reads.Learnt, atom-reads.Asked, atom-reads.Learnt, wide-at-reads.Asked, wide-at-reads.Learnt, text-len-reads.Asked, text-len-reads.Learnt, measure-tree-below t, measure-tree.Post, measure-list-below t, measure-list.Post)
 
 abbrev measure-list-Inv-loop : measure-list-lts.InvT-loop
 measure-list-Inv-loop t at n depth width indent column p₀ i₀ cost₀ empty₀ len₀ p i cost empty len =
@@ -123,7 +100,7 @@ measure-list-treed t c =
     let b = c .before .before .before .before .before .before .before .before .before .before .before in
     let h = b .before .pre .1 in
     let g =
-    walk-tree _ _ _ _ _ _ _ _ _ _ _ _ (l .inv .1) (c .before .before .before .before .before .before .before .before .loop-test .taken) _ _ _ _ _ _ _ (λ i. (b .shared-slice-known .given i) .fits) (h .2) (c .before .before .before .before .before .inner .ensures) (c .before .before .before .before .begins .ensures)
+    walk-tree _ _ _ _ _ _ _ _ _ _ _ _ (l .inv .1) (c .before .before .before .before .before .before .before .before .loop-test .taken) _ _ _ _ _ _ _ (λ i. (b .shared-slice-known .given i) .fits) (h .2) (c .before .before .before .before .before .item-indent .ensures) (c .before .before .before .before .item-column .ensures)
     (c .before .before .before .measure-tree .ensures) (c .before .if3 .left) refl refl refl refl in
     (omega (arith, g .lines, g .from, g .within, h .1, h .4), omega (arith, g .lines, g .from, g .within, h .1, h .4), omega (arith, g .lays, g .from, g .within, h .1, h .2))
 
@@ -157,19 +134,23 @@ measure-list-add-cost-2 t c = omega (arith, measure-list-named t c .0)
 measure-list-add-len-2 : (t : ℕ) → measure-list-lts.Need-add-len-2 (measure-list-calls t) (measure-list-at t) measure-list.Post measure-list-Inv-loop measure-list-μ-loop
 measure-list-add-len-2 t c = omega (arith, measure-list-named t c .1)
 
-measure-list-inner-requires : (t : ℕ) → measure-list-lts.Need-inner-requires (measure-list-calls t) (measure-list-at t) measure-list.Post measure-list-Inv-loop measure-list-μ-loop
-measure-list-inner-requires t c κs = search needs
+measure-list-item-indent-requires : (t : ℕ) → measure-list-lts.Need-item-indent-requires (measure-list-calls t) (measure-list-at t) measure-list.Post measure-list-Inv-loop measure-list-μ-loop
+measure-list-item-indent-requires t c κs = omega (arith, c .before .before .before .before .before .before .pre .1)
 
-measure-list-begins-requires : (t : ℕ) → measure-list-lts.Need-begins-requires (measure-list-calls t) (measure-list-at t) measure-list.Post measure-list-Inv-loop measure-list-μ-loop
-measure-list-begins-requires t c κs = search needs
+measure-list-add-item-column : (t : ℕ) → measure-list-lts.Need-add-item-column (measure-list-calls t) (measure-list-at t) measure-list.Post measure-list-Inv-loop measure-list-μ-loop
+measure-list-add-item-column t c = omega (arith, c .before .before .before .before .before .before .before .pre .1)
+
+measure-list-item-column-requires : (t : ℕ) → measure-list-lts.Need-item-column-requires (measure-list-calls t) (measure-list-at t) measure-list.Post measure-list-Inv-loop measure-list-μ-loop
+measure-list-item-column-requires t c κs = omega (arith, c .before .before .before .before .before .before .before .pre .1)
 
 measure-list-measure-tree-requires : (t : ℕ) → measure-list-lts.Need-measure-tree-requires (measure-list-calls t) (measure-list-at t) measure-list.Post measure-list-Inv-loop measure-list-μ-loop
 measure-list-measure-tree-requires t c κs =
     let l = c .before .before .before .before .before .loop in
-    let b = c .before .before .before .before .before .before .before in
-    let h = b .before .pre .1 in
+    let s = c .before .before .before .before .before .before .before .before in
+    let h = s .pre .1 in
     let g = l .inv .1 in
-    (omega (arith, b .before .pre .0), (g .within, h .1, omega (arith, h .2, c .before .inner .ensures, inner-le (eqb (l .i) 0) Wrap (b .before .args .indent)), omega (arith, h .3, g .from, c .begins .ensures, column-le (eqb (l .i) 0) (b .before .args .column))))
+    let k = item-column-within (eqb (l .i) 0) (s .args .indent) (s .args .column + 1) (l .p + 4 * depthLimit) (omega (arith, h .3, g .from)) (omega (arith, h .2)) in
+    (omega (arith, s .pre .0), (g .within, h .1, omega (arith, h .2, c .before .item-indent .ensures, inner-le (eqb (l .i) 0) Wrap (s .args .indent)), omega (arith, c .item-column .ensures, k)))
 
 measure-list-stopped-requires : (t : ℕ) → measure-list-lts.Need-stopped-requires (measure-list-calls t) (measure-list-at t) measure-list.Post measure-list-Inv-loop measure-list-μ-loop
 measure-list-stopped-requires t c κs = search needs
@@ -210,50 +191,43 @@ measure-list-loop-again t c =
           (c .if2 .came),
     )
 
-measure-list-add-if4 : (t : ℕ) → measure-list-lts.Need-add-if4 (measure-list-calls t) (measure-list-at t) measure-list.Post measure-list-Inv-loop measure-list-μ-loop
-measure-list-add-if4 t c =
-    let l = c .before .loop in
-    let b = c .before .before .before in
-    let h = b .before .pre .1 in
-    let g = l .inv .1 in
-    omega (arith, g .lines, g .from, g .within, h .1, h .2, h .3, h .4)
+measure-list-fits-in-requires : (t : ℕ) → measure-list-lts.Need-fits-in-requires (measure-list-calls t) (measure-list-at t) measure-list.Post measure-list-Inv-loop measure-list-μ-loop
+measure-list-fits-in-requires t c κs = search needs
 
-measure-list-add-t24 : (t : ℕ) → measure-list-lts.Need-add-t24 (measure-list-calls t) (measure-list-at t) measure-list.Post measure-list-Inv-loop measure-list-μ-loop
-measure-list-add-t24 t c =
-    let l = c .before .before .loop in
-    let b = c .before .before .before .before in
-    let h = b .before .pre .1 in
-    let g = l .inv .1 in
-    omega (arith, g .lines, g .from, g .within, h .1, h .2, h .3, h .4)
+measure-list-add-t26 : (t : ℕ) → measure-list-lts.Need-add-t26 (measure-list-calls t) (measure-list-at t) measure-list.Post measure-list-Inv-loop measure-list-μ-loop
+measure-list-add-t26 t c =
+    let g = c .before .before .before .loop .inv .1 in
+    let h = c .before .before .before .before .before .before .pre .1 in
+    omega (arith, g .lines, g .from, g .within, h .1, h .4)
 
 measure-list-returns-3 : (t : ℕ) → measure-list-lts.Need-returns-3 (measure-list-calls t) (measure-list-at t) measure-list.Post measure-list-Inv-loop measure-list-μ-loop
-measure-list-returns-3 t c = let l = c .before .before .loop in walk-line _ _ _ _ _ _ _ _ _ _ _ _ (l .inv .1) (c .before .loop-test .left) (l .inv .0) _ (c .if4 .taken) (refl, refl, refl, refl, refl)
+measure-list-returns-3 t c = let l = c .before .before .before .loop in walk-line _ _ _ _ _ _ _ _ _ _ _ _ (l .inv .1) (c .before .before .loop-test .left) (l .inv .0) _ _ (c .before .fits-in .ensures) (c .if4 .taken) (refl, refl, refl, refl, refl)
 
 measure-list-sub-t17 : (t : ℕ) → measure-list-lts.Need-sub-t17 (measure-list-calls t) (measure-list-at t) measure-list.Post measure-list-Inv-loop measure-list-μ-loop
 measure-list-sub-t17 t c = search needs
 
-measure-list-mul-t25 : (t : ℕ) → measure-list-lts.Need-mul-t25 (measure-list-calls t) (measure-list-at t) measure-list.Post measure-list-Inv-loop measure-list-μ-loop
-measure-list-mul-t25 t c = search needs
-
-measure-list-add-t26 : (t : ℕ) → measure-list-lts.Need-add-t26 (measure-list-calls t) (measure-list-at t) measure-list.Post measure-list-Inv-loop measure-list-μ-loop
-measure-list-add-t26 t c = search needs
-
 measure-list-mul-t27 : (t : ℕ) → measure-list-lts.Need-mul-t27 (measure-list-calls t) (measure-list-at t) measure-list.Post measure-list-Inv-loop measure-list-μ-loop
-measure-list-mul-t27 t c = let h = c .before .before .before .before .before .pre .1 in record { fits = breaks-fit _ _ (omega (arith, h .4)) (omega (arith, h .2)) }
+measure-list-mul-t27 t c = search needs
 
 measure-list-add-t28 : (t : ℕ) → measure-list-lts.Need-add-t28 (measure-list-calls t) (measure-list-at t) measure-list.Post measure-list-Inv-loop measure-list-μ-loop
-measure-list-add-t28 t c =
-    let h = c .before .before .before .before .before .pre .1 in
-    let g = c .before .before .loop .inv .1 in
+measure-list-add-t28 t c = search needs
+
+measure-list-mul-t29 : (t : ℕ) → measure-list-lts.Need-mul-t29 (measure-list-calls t) (measure-list-at t) measure-list.Post measure-list-Inv-loop measure-list-μ-loop
+measure-list-mul-t29 t c = let h = c .before .before .before .before .before .before .pre .1 in record { fits = breaks-fit _ _ (omega (arith, h .4)) (omega (arith, h .2)) }
+
+measure-list-add-t30 : (t : ℕ) → measure-list-lts.Need-add-t30 (measure-list-calls t) (measure-list-at t) measure-list.Post measure-list-Inv-loop measure-list-μ-loop
+measure-list-add-t30 t c =
+    let h = c .before .before .before .before .before .before .pre .1 in
+    let g = c .before .before .before .loop .inv .1 in
     record { fits = laid-fit _ _ _ (omega (arith, g .lays, g .from, g .within, h .1, h .2)) (omega (arith, h .4)) (omega (arith, h .2)) }
 
 measure-list-returns-4 : (t : ℕ) → measure-list-lts.Need-returns-4 (measure-list-calls t) (measure-list-at t) measure-list.Post measure-list-Inv-loop measure-list-μ-loop
-measure-list-returns-4 t c = let l = c .before .before .loop in walk-wide _ _ _ _ _ _ _ _ _ _ _ _ (l .inv .1) (c .before .loop-test .left) (l .inv .0) _ (c .if4 .left) (refl, refl, refl, refl, omega arith)
+measure-list-returns-4 t c = let l = c .before .before .before .loop in walk-wide _ _ _ _ _ _ _ _ _ _ _ _ (l .inv .1) (c .before .before .loop-test .left) (l .inv .0) _ _ (c .before .fits-in .ensures) (c .if4 .left) (refl, refl, refl, refl, omega arith)
 
 -- no sum wraps at a binding
 measure-tree-bound : (t : ℕ) (c : measure-tree-lts.After-struct-known2 (measure-tree-calls t) (measure-tree-at t) measure-tree.Post)
-    → (c .before .before .before .before .before .step3 .given .0 .0 - 3 + c .before .before .before .measure-tree .result .cost ≤ 8589934592)
-    × (c .before .before .before .before .before .step3 .given .0 .0 - 3 + c .before .before .before .measure-tree .result .len ≤ 8589934592)
+    → (c .before .before .before .before .before .step3 .given .0 .0 - headLen + 3 + c .before .before .before .measure-tree .result .cost ≤ 8589934592)
+    × (c .before .before .before .before .before .step3 .given .0 .0 - headLen + 3 + c .before .before .before .measure-tree .result .len ≤ 8589934592)
 measure-tree-bound t c =
     let h = c .before .before .before .before .before .before .before .before .before .pre .1 in
     let n = step-in _ _ (c .before .before .before .before .before .before .before .before .before .args .depth) _ _ (step.Binding _) (c .before .before .before .before .before .before .before .step-at .ensures) (c .before .before .before .before .before .step3 .given .1) in
@@ -305,6 +279,9 @@ measure-tree-enum-known-step-3 t c = search needs
 
 measure-tree-sub-n : (t : ℕ) → measure-tree-lts.Need-sub-n (measure-tree-calls t) (measure-tree-at t) measure-tree.Post
 measure-tree-sub-n t c = omega (arith, step-in _ _ (c .before .before .before .before .before .args .depth) _ _ (step.Binding _) (c .before .before .before .step-at .ensures) (c .before .step3 .given .1))
+
+measure-tree-add-n : (t : ℕ) → measure-tree-lts.Need-add-n (measure-tree-calls t) (measure-tree-at t) measure-tree.Post
+measure-tree-add-n t c = omega (arith, step-in _ _ (c .before .before .before .before .before .args .depth) _ _ (step.Binding _) (c .before .before .before .step-at .ensures) (c .before .step3 .given .1))
 
 measure-tree-add-measure-tree : (t : ℕ) → measure-tree-lts.Need-add-measure-tree (measure-tree-calls t) (measure-tree-at t) measure-tree.Post
 measure-tree-add-measure-tree t c = omega (arith, step-in _ _ (c .before .before .before .before .before .args .depth) _ _ (step.Binding _) (c .before .before .before .step-at .ensures) (c .before .step3 .given .1))
@@ -365,73 +342,21 @@ measure-tree-returns-6 : (t : ℕ) → measure-tree-lts.Need-returns-6 (measure-
 measure-tree-returns-6 t c = at-list _ _ _ _ (c .before .before .before .before .step-at .ensures) _ _ _ _ _ (c .before .before .step4 .given .1) (c .measure-list .ensures)
 
 pub +measure-list+measure-tree-spec : {M : Type 1} → statement M
-+measure-list+measure-tree-spec = close μ-measure-list μ-measure-tree (λ t. measure-list-lts.spec (measure-list-calls t)
-    (measure-list-at t)
-    measure-list.Post
-    measure-list-Inv-loop
-    measure-list-μ-loop
-    (measure-list-returns t)
-    (measure-list-add-cost t)
-    (measure-list-mul-len t)
-    (measure-list-add-len t)
-    (measure-list-loop-holds t)
-    (measure-list-past-symbol-requires t)
-    (measure-list-sub-k t)
-    (measure-list-sub-k-2 t)
-    (measure-list-add-cost-2 t)
-    (measure-list-add-len-2 t)
-    (measure-list-inner-requires t)
-    (measure-list-begins-requires t)
-    (measure-list-measure-tree-requires t)
-    (measure-list-stopped-requires t)
-    (measure-list-returns-2 t)
-    (measure-list-add-cost-3 t)
-    (measure-list-add-empty t)
-    (measure-list-add-len-3 t)
-    (measure-list-add-i t)
-    (measure-list-loop-less t)
-    (measure-list-loop-again t)
-    (measure-list-add-if4 t)
-    (measure-list-add-t24 t)
-    (measure-list-returns-3 t)
-    (measure-list-sub-t17 t)
-    (measure-list-mul-t25 t)
-    (measure-list-add-t26 t)
-    (measure-list-mul-t27 t)
-    (measure-list-add-t28 t)
++measure-list+measure-tree-spec = close μ-measure-list μ-measure-tree
+    (λ t. measure-list-lts.spec (measure-list-calls t) (measure-list-at t) measure-list.Post measure-list-Inv-loop measure-list-μ-loop
+    (measure-list-returns t) (measure-list-add-cost t) (measure-list-mul-len t) (measure-list-add-len t) (measure-list-loop-holds t)
+    (measure-list-past-symbol-requires t) (measure-list-sub-k t) (measure-list-sub-k-2 t) (measure-list-add-cost-2 t) (measure-list-add-len-2 t)
+    (measure-list-item-indent-requires t) (measure-list-add-item-column t) (measure-list-item-column-requires t) (measure-list-measure-tree-requires t)
+    (measure-list-stopped-requires t) (measure-list-returns-2 t) (measure-list-add-cost-3 t) (measure-list-add-empty t) (measure-list-add-len-3 t)
+    (measure-list-add-i t) (measure-list-loop-less t) (measure-list-loop-again t) (measure-list-fits-in-requires t) (measure-list-add-t26 t)
+    (measure-list-returns-3 t) (measure-list-sub-t17 t) (measure-list-mul-t27 t) (measure-list-add-t28 t) (measure-list-mul-t29 t) (measure-list-add-t30 t)
     (measure-list-returns-4 t))
-    λ t. measure-tree-lts.spec (measure-tree-calls t)
-    (measure-tree-at t)
-    measure-tree.Post
-    (measure-tree-step-at-requires t)
-    (measure-tree-enum-known-step t)
-    (measure-tree-stopped-requires t)
-    (measure-tree-enum-known-step-2 t)
-    (measure-tree-add-atom t)
-    (measure-tree-sub-atom t)
-    (measure-tree-atom-requires t)
-    (measure-tree-enum-told t)
-    (measure-tree-add-atom-2 t)
-    (measure-tree-add-wide-at t)
-    (measure-tree-wide-at-requires t)
-    (measure-tree-text-len-requires t)
-    (measure-tree-atom-requires-2 t)
-    (measure-tree-enum-known-step-3 t)
-    (measure-tree-sub-n t)
-    (measure-tree-add-measure-tree t)
-    (measure-tree-sub-measure-tree t)
-    (measure-tree-add-measure-tree-2 t)
-    (measure-tree-measure-tree-requires t)
-    (measure-tree-stopped-requires-2 t)
-    (measure-tree-returns t)
-    (measure-tree-add-t22 t)
-    (measure-tree-add-t23 t)
-    (measure-tree-enum-known-step-4 t)
-    (measure-tree-add-measure-list t)
-    (measure-tree-sub-measure-list t)
-    (measure-tree-measure-list-requires t)
-    (measure-tree-returns-2 t)
-    (measure-tree-returns-3 t)
-    (measure-tree-returns-4 t)
-    (measure-tree-returns-5 t)
-    (measure-tree-returns-6 t)
+    λ t. measure-tree-lts.spec (measure-tree-calls t) (measure-tree-at t) measure-tree.Post
+    (measure-tree-step-at-requires t) (measure-tree-enum-known-step t) (measure-tree-stopped-requires t) (measure-tree-enum-known-step-2 t)
+    (measure-tree-add-atom t) (measure-tree-sub-atom t) (measure-tree-atom-requires t) (measure-tree-enum-told t) (measure-tree-add-atom-2 t)
+    (measure-tree-add-wide-at t) (measure-tree-wide-at-requires t) (measure-tree-text-len-requires t) (measure-tree-atom-requires-2 t)
+    (measure-tree-enum-known-step-3 t) (measure-tree-sub-n t) (measure-tree-add-n t) (measure-tree-add-measure-tree t) (measure-tree-sub-measure-tree t)
+    (measure-tree-add-measure-tree-2 t) (measure-tree-measure-tree-requires t) (measure-tree-stopped-requires-2 t) (measure-tree-returns t)
+    (measure-tree-add-t22 t) (measure-tree-add-t23 t) (measure-tree-enum-known-step-4 t) (measure-tree-add-measure-list t)
+    (measure-tree-sub-measure-list t) (measure-tree-measure-list-requires t) (measure-tree-returns-2 t) (measure-tree-returns-3 t)
+    (measure-tree-returns-4 t) (measure-tree-returns-5 t) (measure-tree-returns-6 t)

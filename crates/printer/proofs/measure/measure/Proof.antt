@@ -4,7 +4,7 @@ use Prim.Native.Nat.{_+_, _-_, _<_}
 use native.Mathlib.Omega.{arith}
 use lib.Dec.{lit≤}
 use lib.ListN.{length}
-use Rattle.printer.proofs.Walks.{Paged, paged-long, paged-begin, lead-some, lead-none, paged-tree, paged-stop, paged-end}
+use Rattle.printer.proofs.MeasuringWalk.{Paged, paged-long, paged-begin, lead-some, lead-none, paged-tree, paged-stop, paged-end}
 use Rattle.printer.proofs.measure.measure.Statement.{statement}
 use Rattle.printer.proofs.measure.measure.Tie as tie
 use Rattle.printer.proofs.measure.measure.Reads as reads

@@ -7,7 +7,7 @@ use borrow.Author.Needs.{needs}
 use lib.ListN.{length, length-set, replicate, set}
 use Rattle.lists.specs.Over.{over}
 use Rattle.lists.proofs.Writing.{over-more}
-use Rattle.printer.proofs.Rooms.{broken, broken-size}
+use Rattle.printer.proofs.ShortRooms.{broken, broken-size}
 use Rattle.printer.proofs.room.nl.Statement.{statement}
 use Rattle.printer.proofs.room.nl.Tie as tie
 

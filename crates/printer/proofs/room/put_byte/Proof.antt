@@ -2,7 +2,7 @@
 use native.Mathlib.Omega.{arith}
 use borrow.Author.Needs.{needs}
 use mathlib.Core.Path.{refl}
-use Rattle.printer.proofs.Rooms.{one-byte}
+use Rattle.printer.proofs.ShortRooms.{one-byte}
 use Rattle.printer.proofs.room.put_byte.Statement.{statement}
 use Rattle.printer.proofs.room.put_byte.Tie as tie
 

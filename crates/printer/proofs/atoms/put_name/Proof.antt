@@ -1,4 +1,4 @@
--- `printer::put_name`: a copy and three bytes, where there is room for them.
+-- `printer::atoms::put_name`: a copy and three bytes, where there is room for them.
 use mathlib.Core.Path.{_≡_, refl, sym, ap, _∙_}
 use mathlib.Core.List.{List}
 use Prim.Native.Nat.{ℕ, _+_, _-_}
@@ -7,14 +7,14 @@ use borrow.Author.Needs.{needs}
 use lib.ListN.{length, length-set, take, drop}
 use Rattle.lists.specs.Over.{over}
 use Rattle.lists.proofs.Writing.{Wrote}
-use Rattle.table.specs.Records.{payload}
-use Rattle.table.proofs.Stands.{part-size}
+use Rattle.records.specs.Records.{headLen, payload}
+use Rattle.lists.proofs.Stands.{part-size}
 use Rattle.table.proofs.Checking.{part}
 use Rattle.lists.proofs.Blocks.{copied}
-use Rattle.printer.proofs.Rooms.{wrote-three}
-use Rattle.printer.proofs.Singles.{named-size}
-use Rattle.printer.proofs.put_name.Statement.{statement}
-use Rattle.printer.proofs.put_name.Tie as tie
+use Rattle.printer.proofs.ShortRooms.{wrote-three}
+use Rattle.printer.proofs.LayoutBounds.{named-size}
+use Rattle.printer.proofs.atoms.put_name.Statement.{statement}
+use Rattle.printer.proofs.atoms.put_name.Tie as tie
 
 add-start : tie.Need-add-start
 add-start c = search needs
@@ -35,7 +35,7 @@ returns : tie.Need-returns
 returns c =
     let a = c .before .before .before in
     let n : List ℕ = payload (a .args .t .now) (a .args .at) (a .args .len) in
-    let e : a .args .len - 6 + 3 ≡ length n + 3 = ap (λ (k : ℕ). k + 3) (sym (part-size (a .args .t .now) (a .args .at + 6) (a .args .len - 6) (omega (arith, a .pre)))) in
+    let e : a .args .len - headLen + 3 ≡ length n + 3 = ap (λ (k : ℕ). k + 3) (sym (part-size (a .args .t .now) (a .args .at + headLen) (a .args .len - headLen) (omega (arith, a .pre)))) in
     (e ∙ sym (named-size n), λ l. absurd (omega (arith, e, named-size n)))
 
 sub-copy : tie.Need-sub-copy
@@ -77,13 +77,13 @@ returns-2 c =
     let t : List ℕ = a .args .t .now in
     let n : List ℕ = payload t (a .args .at) (a .args .len) in
     let b : List ℕ = a .args .out .now in
-    let k : length n ≡ a .args .len - 6 = part-size t (a .args .at + 6) (a .args .len - 6) (omega (arith, a .pre)) in
+    let k : length n ≡ a .args .len - headLen = part-size t (a .args .at + headLen) (a .args .len - headLen) (omega (arith, a .pre)) in
     let s = part t (a .args .at) (a .args .len) in
     let e = c .before .before .copy .ensures .1 in
-    let w : Wrote n b _ (a .args .len - 6) = record {
+    let w : Wrote n b _ (a .args .len - headLen) = record {
       size = k;
       within = omega arith;
-      holds = copied (take (a .args .at + a .args .len - (a .args .at + 6)) (drop (a .args .at + 6) t)) b _ _ refl e ∙ ap (λ (o : List ℕ). over o b) s;
+      holds = copied (take (a .args .at + a .args .len - (a .args .at + headLen)) (drop (a .args .at + headLen) t)) b _ _ refl e ∙ ap (λ (o : List ℕ). over o b) s;
     } in
     (ap (λ (j : ℕ). j + 3) (sym k) ∙ sym (named-size n), λ l. wrote-three w (omega arith) 32 64 32 .holds)
 

@@ -11,60 +11,60 @@ use lib.IntN.{ℤ}
 use lib.Dec.{ltb, eqb}
 use borrow.Author.Tests.{lt-ltb, le-ltb, ne-eqb}
 use Rattle.refusals.specs.Numbers.{tableLimit, depthLimit, tooLong}
+use Rattle.refusals.specs.Result.{Result, ok, refused}
 use Rattle.wide.specs.Bytes.{wideIn}
 use Rattle.wide.specs.Text.{integerText}
 use Rattle.wide.proofs.Numbers.{Bytes}
 use Rattle.table.specs.Trees.{Tree, Trees, symbol, list, none, more, count, records}
-use Rattle.table.specs.Records.{payload}
-use Rattle.table.specs.Decoding.{Found, found, refused, andThen, itemsAt, stepAt, ofStep, treeAt, tableOf}
+use Rattle.records.specs.Records.{headLen, payload}
+use Rattle.records.proofs.Heads.{part-lt, payload-size}
+use Rattle.table.specs.Kinds.{integerLen, listLen}
+use Rattle.table.specs.Decoding.{Found, found, andThen, itemsAt, stepAt, ofStep, treeAt, tableOf}
 use Rattle.table.specs.declared.Step.{Step}
 use Rattle.table.specs.declared.Step.the-variants as step
-use Rattle.table.specs.Walking.{pastSymbol}
-use Rattle.table.proofs.Stands.{part-size}
-use Rattle.table.proofs.Decoded.{Holds, tree-holds, part-lt}
+use Rattle.table.specs.Past.{pastSymbol}
 use Rattle.table.proofs.Steps.{step-tree, step-in, symbol-there, found-in, Gone, gone-begin, gone-item, gone-stop, gone-end}
 use Rattle.table.proofs.Steps.{Read, too-long, read-begin, read-tree, read-stop, read-end}
-use Rattle.printer.specs.Layout.{Wrap, bytes, named, lay, cost, costs, pageFrom, page}
-use Rattle.printer.specs.Measuring.{alone, empties, emptiesOf, Sized, Summed, itemIndent, itemColumn}
+use Rattle.printer.specs.Layout.{Wrap, SingleLine, bytes, column, named, gap, inner, fitsIn, lay, items, cost, costs, pageFrom, page}
+use Rattle.printer.specs.PrivateWriting.{line, laid}
+use Rattle.printer.specs.PrivateMeasuring.{Sized, Summed}
 use Rattle.printer.specs.declared.measure.Size.{Size}
 use Rattle.printer.specs.declared.measure.Measured.the-variants.{Bytes as Text, Refused}
-use Rattle.printer.proofs.Entries.{integer-value}
-use Rattle.printer.proofs.Singles.{named-size}
-use Rattle.printer.proofs.Bounds.{inner-le, lay-len}
-use Rattle.printer.proofs.Sizes.{sums, wide-size, line-size, line-len}
+use Rattle.printer.proofs.FitEntries.{integer-value}
+use Rattle.printer.proofs.ListTexts.{sizes, flatly, broken, line-binding, line-size, laid-binding, laid-fits, laid-size}
+use Rattle.printer.proofs.LayoutBounds.{named-size, inner-le, found-len, line-len}
 
 -- ---- what stands at a place, where it was measured as a tree
 
 pub record Got (t : List ℕ) (d p w i c q cost′ empty len : ℕ) : Type 0 where
   pub tree : Tree
-  pub is : treeAt t true d p ≡ found tree q
+  pub is : treeAt t true d p ≡ ok (found tree q)
   pub costs-it : cost′ ≡ cost tree
-  pub empties-it : empty ≡ empties tree
-  pub lays-it : len ≡ length (bytes (lay tree Wrap w i c))
-
-got-of : (t : List ℕ) (d p w i c : ℕ) (m : Size) (y : Found Tree) → treeAt t true d p ≡ y → Sized y w i c m → m .number ≤ 0
-    → Got t d p w i c (m .place) (m .cost) (m .empty) (m .len)
-got-of t d p w i c m (found x q) e s h =
-    record { tree = x; is = e ∙ ap (found x) (sym (s .1)); costs-it = s .2; empties-it = s .3; lays-it = s .4 }
-got-of t d p w i c m (refused n a) e s h = absurd (omega (arith, s .0, s .1))
+  pub lines-it : cost′ + empty ≡ length (line tree)
+  pub lays-it : len ≡ length (laid w i c tree)
 
 pub got-tree : (t : List ℕ) (d p w i c : ℕ) (m : Size) → Sized (treeAt t true d p) w i c m → m .number ≤ 0
     → Got t d p w i c (m .place) (m .cost) (m .empty) (m .len)
-got-tree t d p w i c m s h = got-of t d p w i c m (treeAt t true d p) refl s h
+got-tree t d p w i c m s h = by (treeAt t true d p) refl s
+  where
+    by : (y : Result (Found Tree)) → treeAt t true d p ≡ y → Sized y w i c m → Got t d p w i c (m .place) (m .cost) (m .empty) (m .len)
+    by (ok (found x q)) e s =
+        record { tree = x; is = e ∙ ap (λ (v : ℕ). ok (found x v)) (sym (s .1)); costs-it = s .2; lines-it = s .3; lays-it = s .4 }
+    by (refused n a) e s = absurd (omega (arith, s .0, s .1))
 
-payload-size : (t : List ℕ) (at len : ℕ) → 6 ≤ len → len ≤ length t - at → length (payload t at len) ≡ len - 6
-payload-size t at len h6 hl = part-size t (at + 6) (len - 6) (omega arith)
+payload-is : (t : List ℕ) (at len : ℕ) → headLen ≤ len → len ≤ length t - at → length (payload t at len) ≡ len - headLen
+payload-is t at len h6 hl = omega (arith, payload-size t at len (omega arith) h6)
 
-pub got-name : (t : List ℕ) (d p w i c q : ℕ) → q ≡ pastSymbol t p → p < q → (6 ≤ q - p) × Got t d p w i c q (q - p - 6) 0 (q - p - 6)
-unfolding lay cost empties
+pub got-name : (t : List ℕ) (d p w i c q : ℕ) → q ≡ pastSymbol t p → p < q → (headLen ≤ q - p) × Got t d p w i c q (q - p - headLen) 0 (q - p - headLen)
+unfolding lay cost line
 got-name t d p w i c q e l =
     let n = symbol-there t true d p q e l in
-    let s = payload-size t p (q - p) (n .0) (n .1) in
-    (n .0, record { tree = symbol (payload t p (q - p)); is = n .2; costs-it = sym s; empties-it = refl; lays-it = sym s })
+    let s = payload-is t p (q - p) (n .0) (n .1) in
+    (n .0, record { tree = symbol (payload t p (q - p)); is = n .2; costs-it = sym s; lines-it = omega arith; lays-it = sym s })
 
 -- what was refused there
-stop-of : (y : Found Tree) (w i c : ℕ) (m : Size) → Sized y w i c m → 0 < m .number → y ≡ refused (m .number) (m .place)
-stop-of (found x q) w i c m s l = absurd (omega (arith, s .0))
+stop-of : (y : Result (Found Tree)) (w i c : ℕ) (m : Size) → Sized y w i c m → 0 < m .number → y ≡ refused (m .number) (m .place)
+stop-of (ok (found x q)) w i c m s l = absurd (omega (arith, s .0))
 stop-of (refused n a) w i c m s l = rw (s .0, s .2) refl
 
 -- its numbers are bounded by its records
@@ -78,79 +78,77 @@ pub small : (t : List ℕ) (d p w i c q cost′ empty len : ℕ) → Bytes t →
     → Small t p q cost′ empty len
 small t d p w i c q cost′ empty len hb hp h g =
     let e = found-in t true d p q (g .tree) hp (g .is) in
-    let k = subst (Holds t true d p) (g .is) (tree-holds t hb true d p hp) in
-    let a = line-len (g .tree) d (k .2) (omega arith) in
-    let b = lay-len (g .tree) d Wrap w i c (k .2) h in
-    let z : q - p ≡ length (records (g .tree)) = omega (arith, k .1) in
     record {
       past = e .0;
       within = e .1;
-      lines = rw z (omega (arith, g .costs-it, g .empties-it));
-      lays = rw z (omega (arith, g .lays-it));
+      lines = omega (arith, line-len t d p q (g .tree) hb hp (omega arith) (g .is), g .lines-it);
+      lays = omega (arith, found-len t d p q (g .tree) Wrap w i c hb hp h (g .is), g .lays-it);
     }
 
 -- ---- a judged record s
 
 module _ (t : List ℕ) (d at : ℕ) (s : Step) (e : s ≡ stepAt t true at (ltb 0 d)) (w i c : ℕ) (r : Size) where
   to : (s′ : Step) → s ≡ s′ → Sized (ofStep t at (treeAt t true (d - 1)) s′) w i c r → Sized (treeAt t true d at) w i c r
-  to s′ e′ k = subst⁻¹ (λ (v : Found Tree). Sized v w i c r) (step-tree t true d at s s′ e e′) k
+  to s′ e′ k = subst⁻¹ (λ (v : Result (Found Tree)). Sized v w i c r) (step-tree t true d at s s′ e e′) k
 
   pub at-fault : (n : ℕ) → s ≡ step.Fault n → (r .number ≡ n) × (r .place ≡ at) → Sized (treeAt t true d at) w i c r
   at-fault n e′ k = to (step.Fault n) e′ (k .0, step-in t true d at s (step.Fault n) e e′, k .1)
 
-  pub at-symbol : (len : ℕ) → s ≡ step.Symbol len → r ≡ record { number = 0; place = at + len; cost = len - 6; empty = 0; len = len - 6 }
+  pub at-symbol : (len : ℕ) → s ≡ step.Symbol len → r ≡ record { number = 0; place = at + len; cost = len - headLen; empty = 0; len = len - headLen }
       → Sized (treeAt t true d at) w i c r
-  unfolding lay cost empties
+  unfolding lay cost line
   at-symbol len e′ k =
       let a = step-in t true d at s (step.Symbol len) e e′ in
-      to (step.Symbol len) e′ (rw (k, payload-size t at len (a .0) (a .1)) (refl, refl, refl, refl, refl))
+      to (step.Symbol len) e′ (rw (k, payload-is t at len (a .0) (a .1)) (refl, refl, refl, omega arith, refl))
 
-  pub at-integer : (n : ℕ) (z : ℤ) → s ≡ step.Integer → n ≡ length (integerText z) → z ≡ wideIn t (at + 6)
-      → r ≡ record { number = 0; place = at + 22; cost = n; empty = 0; len = n } → Sized (treeAt t true d at) w i c r
-  unfolding lay cost empties
+  pub at-integer : (n : ℕ) (z : ℤ) → s ≡ step.Integer → n ≡ length (integerText z) → z ≡ wideIn t (at + headLen)
+      → r ≡ record { number = 0; place = at + integerLen; cost = n; empty = 0; len = n } → Sized (treeAt t true d at) w i c r
+  unfolding lay cost line
   at-integer n z e′ en ez k =
-      to step.Integer e′ (rw (k, en, integer-value t at z (step-in t true d at s step.Integer e e′ .0) ez) (refl, refl, refl, refl, refl))
+      to step.Integer e′ (rw (k, en, integer-value t at z (step-in t true d at s step.Integer e e′ .0) ez) (refl, refl, refl, omega arith, refl))
 
   -- m is what the tree below was measured as
-  pub binding-stop : (len : ℕ) (m : Size) → s ≡ step.Binding len → Sized (treeAt t true (d - 1) (at + len)) w i (c + (len - 3)) m → 0 < m .number
+  pub binding-stop : (len : ℕ) (m : Size) → s ≡ step.Binding len → Sized (treeAt t true (d - 1) (at + len)) w i (c + (len - headLen + 3)) m → 0 < m .number
       → (r .number ≡ m .number) × (r .place ≡ m .place) → Sized (treeAt t true d at) w i c r
   binding-stop len m e′ u l k =
-      to (step.Binding len) e′ (rw (stop-of (treeAt t true (d - 1) (at + len)) w i (c + (len - 3)) m u l) (k .0, l, k .1))
+      to (step.Binding len) e′ (rw (stop-of (treeAt t true (d - 1) (at + len)) w i (c + (len - headLen + 3)) m u l) (k .0, l, k .1))
 
-  pub binding-good : (len : ℕ) (m : Size) → s ≡ step.Binding len → Sized (treeAt t true (d - 1) (at + len)) w i (c + (len - 3)) m → m .number ≤ 0
-      → (r .number ≡ 0) × (r .place ≡ m .place) × (r .cost ≡ len - 3 + m .cost) × (r .empty ≡ m .empty) × (r .len ≡ len - 3 + m .len)
+  pub binding-good : (len : ℕ) (m : Size) → s ≡ step.Binding len → Sized (treeAt t true (d - 1) (at + len)) w i (c + (len - headLen + 3)) m → m .number ≤ 0
+      → (r .number ≡ 0) × (r .place ≡ m .place) × (r .cost ≡ len - headLen + 3 + m .cost) × (r .empty ≡ m .empty) × (r .len ≡ len - headLen + 3 + m .len)
       → Sized (treeAt t true d at) w i c r
-  unfolding lay cost empties
+  unfolding cost
   binding-good len m e′ u l k =
-      let y = got-tree t (d - 1) (at + len) w i (c + (len - 3)) m u l in
+      let y = got-tree t (d - 1) (at + len) w i (c + (len - headLen + 3)) m u l in
       let a = step-in t true d at s (step.Binding len) e e′ in
-      let z = payload-size t at len (a .0) (a .1) in
       let nm : List ℕ = payload t at len in
-      let v : length (named nm) ≡ len - 3 = named-size nm ∙ omega (arith, a .0) in
+      let z : length nm ≡ len - headLen = payload-is t at len (a .0) (a .1) in
+      let v : len - headLen + 3 ≡ length (named nm) = omega (arith, named-size nm) in
+      let f = ap length (line-binding nm (y .tree)) ∙ length-append (named nm) (line (y .tree)) in
+      let g = ap length (laid-binding nm (y .tree) w i c (len - headLen + 3) v) ∙ length-append (named nm) (laid w i (c + (len - headLen + 3)) (y .tree)) in
       to (step.Binding len) e′ (rw (y .is) (
         k .0,
         k .1,
-        k .2 ∙ omega (arith, a .0, y .costs-it),
-        k .3 ∙ y .empties-it,
-        k .4 ∙ rw (length-append (named nm) (bytes (lay (y .tree) Wrap w i (c + length (named nm)))), v) (omega (arith, y .lays-it)),
+        k .2 ∙ omega (arith, y .costs-it),
+        omega (arith, k .2, k .3, y .lines-it, f),
+        k .4 ∙ omega (arith, y .lays-it, g),
       ))
 
-  pub at-list : (n : ℕ) → s ≡ step.List n → Sized (andThen (itemsAt (treeAt t true (d - 1)) n (at + 10)) (λ xs q. found (list xs) q)) w i c r
+  pub at-list : (n : ℕ) → s ≡ step.List n → Sized (andThen (itemsAt (treeAt t true (d - 1)) n (at + listLen)) (λ xs q. ok (found (list xs) q))) w i c r
       → Sized (treeAt t true d at) w i c r
   at-list n e′ k = to (step.List n) e′ k
 
 -- the count of a list fits 4 bytes
 pub list-few : (t : List ℕ) (d at n : ℕ) (s : Step) → Bytes t → s ≡ stepAt t true at (ltb 0 d) → s ≡ step.List n → n < 4294967296
 list-few t d at n s hb e e′ =
-    let h = step-in t true d at s (step.List n) e e′ in omega (arith, part-lt t (at + 6) 4 hb (omega arith), h .2)
+    let h = step-in t true d at s (step.List n) e e′ in omega (arith, part-lt t (at + headLen) 4 hb (omega arith), h .2)
 
 -- ---- the items of a list: k of them are done, and p is past them
 
 pub record Walk (t : List ℕ) (at n d w i c p k cost′ empty len : ℕ) : Type 0 where
   pub gone : Gone (treeAt t true d) n at k p
   pub costing : (ys : Trees) → n + 1 + costs (gone .pre ys) ≡ cost′ + costs ys
-  pub emptied : (ys : Trees) → emptiesOf (gone .pre ys) ≡ empty + emptiesOf ys
-  pub summed : (ys : Trees) → 4 * i + 3 + sums (gone .pre ys) true w i c ≡ len + sums ys (eqb k 0) w i c
+  pub lined : (ys : Trees) → n + 1 + sizes flatly (gone .pre ys) true ≡ cost′ + empty + sizes flatly ys (eqb k 0)
+  pub summed : (ys : Trees) → 4 * i + 3 + sizes (broken w i (c + 1)) (gone .pre ys) true ≡ len + sizes (broken w i (c + 1)) ys (eqb k 0)
   pub from : at ≤ p
   pub within : p ≤ length t
   pub lines : cost′ + empty ≤ n + 1 + 128 * (p - at)
@@ -160,7 +158,7 @@ pub walk-begin : (t : List ℕ) (at n d w i c : ℕ) → at ≤ length t → Wal
 walk-begin t at n d w i c h = record {
   gone = gone-begin (treeAt t true d) n at;
   costing = λ ys. refl;
-  emptied = λ ys. omega arith;
+  lined = λ ys. omega arith;
   summed = λ ys. refl;
   from = omega arith;
   within = h;
@@ -169,17 +167,24 @@ walk-begin t at n d w i c h = record {
 }
 
 module _ (t : List ℕ) (at n d w i c p k cost′ empty len : ℕ) (g : Walk t at n d w i c p k cost′ empty len) (lt : k < n) where
-  pub walk-item : (q a b l cost″ empty″ len″ : ℕ) → Bytes t → i + 1 + d ≤ depthLimit → Got t d p w (itemIndent (eqb k 0) i) (itemColumn (eqb k 0) c) q a b l
+  -- the indent and the column of the item at p
+  abbrev pub ind : ℕ
+  ind = inner (eqb k 0) Wrap i
+
+  abbrev pub col : ℕ
+  col = column (gap (eqb k 0) Wrap i (c + 1))
+
+  pub walk-item : (q a b l cost″ empty″ len″ : ℕ) → Bytes t → i + 1 + d ≤ depthLimit → Got t d p w ind col q a b l
       → cost″ ≡ cost′ + a → empty″ ≡ empty + b → len″ ≡ len + l → Walk t at n d w i c q (k + 1) cost″ empty″ len″
-  unfolding cost empties sums
+  unfolding cost sizes
   walk-item q a b l cost″ empty″ len″ hb hi y ea eb el =
-      let s = small t d p w (itemIndent (eqb k 0) i) (itemColumn (eqb k 0) c) q a b l hb (g .within) (omega (arith, inner-le (eqb k 0) Wrap i)) y in
+      let s = small t d p w ind col q a b l hb (g .within) (omega (arith, inner-le (eqb k 0) Wrap i)) y in
       let x : Tree = y .tree in
       let z : eqb (k + 1) 0 ≡ false = ne-eqb (k + 1) 0 (λ (u : k + 1 ≡ 0). omega arith) in
       record {
         gone = gone-item (treeAt t true d) n at k p (g .gone) q x lt (y .is);
         costing = λ ys. g .costing (more x ys) ∙ omega (arith, y .costs-it);
-        emptied = λ ys. g .emptied (more x ys) ∙ omega (arith, y .empties-it);
+        lined = λ ys. g .lined (more x ys) ∙ rw z (omega (arith, y .lines-it));
         summed = λ ys. g .summed (more x ys) ∙ rw z (omega (arith, y .lays-it));
         from = omega (arith, g .from, s .past);
         within = s .within;
@@ -187,35 +192,29 @@ module _ (t : List ℕ) (at n d w i c p k cost′ empty len : ℕ) (g : Walk t a
         lays = omega (arith, g .lays, g .from, s .lays, s .past);
       }
 
-  pub walk-name : (q p″ cost″ empty″ len″ : ℕ) → Bytes t → i + 1 + d ≤ depthLimit → q ≡ pastSymbol t p → p < q → p″ ≡ q → cost″ ≡ cost′ + (q - p - 6) → empty″ ≡ empty
-      → len″ ≡ len + (q - p - 6) → Walk t at n d w i c p″ (k + 1) cost″ empty″ len″
+  pub walk-name : (q p″ cost″ empty″ len″ : ℕ) → Bytes t → i + 1 + d ≤ depthLimit → q ≡ pastSymbol t p → p < q → p″ ≡ q → cost″ ≡ cost′ + (q - p - headLen)
+      → empty″ ≡ empty → len″ ≡ len + (q - p - headLen) → Walk t at n d w i c p″ (k + 1) cost″ empty″ len″
   walk-name q p″ cost″ empty″ len″ hb hi f l ep ea eb el =
-      let y = got-name t d p w (itemIndent (eqb k 0) i) (itemColumn (eqb k 0) c) q f l in
-      subst⁻¹ (λ (v : ℕ). Walk t at n d w i c v (k + 1) cost″ empty″ len″) ep (walk-item q (q - p - 6) 0 (q - p - 6) cost″ empty″ len″ hb hi (y .1) ea (eb ∙ omega arith) el)
+      let y = got-name t d p w ind col q f l in
+      rw ep (walk-item q (q - p - headLen) 0 (q - p - headLen) cost″ empty″ len″ hb hi (y .1) ea (eb ∙ omega arith) el)
 
-  pub walk-tree : (j o p″ cost″ empty″ len″ : ℕ) (m : Size) → Bytes t → i + 1 + d ≤ depthLimit → j ≡ itemIndent (eqb k 0) i → o ≡ itemColumn (eqb k 0) c
-      → Sized (treeAt t true d p) w j o m → m .number ≤ 0 → p″ ≡ m .place → cost″ ≡ cost′ + m .cost → empty″ ≡ empty + m .empty → len″ ≡ len + m .len
-      → Walk t at n d w i c p″ (k + 1) cost″ empty″ len″
+  pub walk-tree : (j o p″ cost″ empty″ len″ : ℕ) (m : Size) → Bytes t → i + 1 + d ≤ depthLimit → j ≡ ind → o ≡ col → Sized (treeAt t true d p) w j o m → m .number ≤ 0
+      → p″ ≡ m .place → cost″ ≡ cost′ + m .cost → empty″ ≡ empty + m .empty → len″ ≡ len + m .len → Walk t at n d w i c p″ (k + 1) cost″ empty″ len″
   walk-tree j o p″ cost″ empty″ len″ m hb hi ej eo s l ep ea eb el =
-      let s′ : Sized (treeAt t true d p) w (itemIndent (eqb k 0) i) (itemColumn (eqb k 0) c) m = subst (λ (v : ℕ). Sized (treeAt t true d p) w (itemIndent (eqb k 0) i) v m) eo (subst (λ (v : ℕ). Sized (treeAt t true d p) w v o m) ej s) in
-      let y = got-tree t d p w (itemIndent (eqb k 0) i) (itemColumn (eqb k 0) c) m s′ l in
-      subst⁻¹ (λ (v : ℕ). Walk t at n d w i c v (k + 1) cost″ empty″ len″) ep (walk-item (m .place) (m .cost) (m .empty) (m .len) cost″ empty″ len″ hb hi y ea eb el)
+      let s′ : Sized (treeAt t true d p) w ind col m = subst (λ (v : ℕ). Sized (treeAt t true d p) w ind v m) eo (subst (λ (v : ℕ). Sized (treeAt t true d p) w v o m) ej s) in
+      rw ep (walk-item (m .place) (m .cost) (m .empty) (m .len) cost″ empty″ len″ hb hi (got-tree t d p w ind col m s′ l) ea eb el)
 
   -- m is the refusal at p
   pub walk-stop : (j o : ℕ) (m r : Size) → Sized (treeAt t true d p) w j o m → 0 < m .number → (r .number ≡ m .number) × (r .place ≡ m .place)
-      → Sized (andThen (itemsAt (treeAt t true d) n at) (λ xs q. found (list xs) q)) w i c r
+      → Sized (andThen (itemsAt (treeAt t true d) n at) (λ xs q. ok (found (list xs) q))) w i c r
   walk-stop j o m r s l h =
       rw (gone-stop (treeAt t true d) n at k p (g .gone) (m .number) (m .place) lt (stop-of (treeAt t true d p) w j o m s l)) (h .0, l, h .1)
-
-some-not-alone : (xs : Trees) → 0 < count xs → alone xs ≡ 0
-some-not-alone none h = absurd (omega arith)
-some-not-alone (more x xs) h = refl
 
 module _ (t : List ℕ) (at n d w i c p k cost′ empty len : ℕ) (g : Walk t at n d w i c p k cost′ empty len) (le : n ≤ k) (some : 0 < n) where
   abbrev all : Trees
   all = g .gone .pre none
 
-  is-all : itemsAt (treeAt t true d) n at ≡ found all p
+  is-all : itemsAt (treeAt t true d) n at ≡ ok (found all p)
   is-all = gone-end (treeAt t true d) n at k p (g .gone) le
 
   all-count : count all ≡ n
@@ -225,31 +224,36 @@ module _ (t : List ℕ) (at n d w i c p k cost′ empty len : ℕ) (g : Walk t a
   unfolding cost
   all-cost = omega (arith, all-count, g .costing none)
 
-  all-empty : empty ≡ empties (list all)
-  unfolding empties
-  all-empty = omega (arith, g .emptied none, some-not-alone all (omega (arith, all-count)))
+  all-line : cost′ + empty ≡ length (line (list all))
+  unfolding sizes
+  all-line = omega (arith, g .lined none, all-count, line-size all (omega (arith, all-count)))
 
-  pub walk-line : (r : Size) → c + cost′ ≤ w → (r .number ≡ 0) × (r .place ≡ p) × (r .cost ≡ cost′) × (r .empty ≡ empty) × (r .len ≡ cost′ + empty)
-      → Sized (andThen (itemsAt (treeAt t true d) n at) (λ xs q. found (list xs) q)) w i c r
-  walk-line r l h =
-      rw is-all (h .0, h .1, h .2 ∙ all-cost, h .3 ∙ all-empty, h .4 ∙ omega (arith, line-size all w i c (omega (arith, all-cost)), all-cost, all-empty))
+  pub walk-line : (fit : Bool) (r : Size) → fit ≡ fitsIn w c cost′ → fit ≡ true
+      → (r .number ≡ 0) × (r .place ≡ p) × (r .cost ≡ cost′) × (r .empty ≡ empty) × (r .len ≡ cost′ + empty)
+      → Sized (andThen (itemsAt (treeAt t true d) n at) (λ xs q. ok (found (list xs) q))) w i c r
+  walk-line fit r ef e h =
+      let f : fitsIn w c (cost (list all)) ≡ true = ap (fitsIn w c) (sym all-cost) ∙ sym ef ∙ e in
+      rw is-all (h .0, h .1, h .2 ∙ all-cost, omega (arith, h .2, h .3, all-line), h .4 ∙ all-line ∙ sym (ap length (laid-fits all w i c f)))
 
-  pub walk-wide : (r : Size) → w < c + cost′ → (r .number ≡ 0) × (r .place ≡ p) × (r .cost ≡ cost′) × (r .empty ≡ empty) × (r .len ≡ len + (n - 1) * (4 * i + 5))
-      → Sized (andThen (itemsAt (treeAt t true d) n at) (λ xs q. found (list xs) q)) w i c r
-  unfolding sums
-  walk-wide r l h =
-      let a = wide-size all w i c (omega (arith, all-count)) (omega (arith, all-cost)) in
+  pub walk-wide : (fit : Bool) (r : Size) → fit ≡ fitsIn w c cost′ → fit ≡ false
+      → (r .number ≡ 0) × (r .place ≡ p) × (r .cost ≡ cost′) × (r .empty ≡ empty) × (r .len ≡ len + (n - 1) * (4 * i + 5))
+      → Sized (andThen (itemsAt (treeAt t true d) n at) (λ xs q. ok (found (list xs) q))) w i c r
+  unfolding sizes
+  walk-wide fit r ef e h =
+      let f : fitsIn w c (cost (list all)) ≡ false = ap (fitsIn w c) (sym all-cost) ∙ sym ef ∙ e in
+      let a = laid-size all w i c (omega (arith, all-count)) f in
       let b : (count all - 1) * (4 * i + 5) ≡ (n - 1) * (4 * i + 5) = ap (λ (v : ℕ). (v - 1) * (4 * i + 5)) all-count in
-      rw is-all (h .0, h .1, h .2 ∙ all-cost, h .3 ∙ all-empty, h .4 ∙ omega (arith, a, b, g .summed none))
+      rw is-all (h .0, h .1, h .2 ∙ all-cost, omega (arith, h .2, h .3, all-line), h .4 ∙ omega (arith, a, b, g .summed none))
 
+-- an empty list is () at any width, whether it fits or not
 pub none-sized : (t : List ℕ) (at n d w i c : ℕ) (r : Size) → n ≡ 0 → (r .number ≡ 0) × (r .place ≡ at) × (r .cost ≡ 1) × (r .empty ≡ 1) × (r .len ≡ 2)
-    → Sized (andThen (itemsAt (treeAt t true d) n at) (λ xs q. found (list xs) q)) w i c r
-unfolding itemsAt lay cost empties
-none-sized t at n d w i c r e h = rw e h
-
-pub column-le : (first : Bool) (c : ℕ) → itemColumn first c ≤ c + 1
-column-le true c = omega arith
-column-le false c = omega arith
+    → Sized (andThen (itemsAt (treeAt t true d) n at) (λ xs q. ok (found (list xs) q))) w i c r
+unfolding itemsAt lay cost line
+none-sized t at n d w i c r e h = rw e (h .0, h .1, h .2, omega (arith, h .2, h .3), h .4 ∙ by (fitsIn w c 1))
+  where
+    by : (b : Bool) → 2 ≡ length (bytes (items none true (cond b SingleLine Wrap) w i (c + 1))) + 1
+    by true = refl
+    by false = refl
 
 -- k line breaks of a wrapped list, and b bytes besides
 breaks-lt : (k i : ℕ) → k ≤ 4294967295 → i ≤ depthLimit → k * (4 * i + 5) < 2 ^ 41

@@ -1,0 +1,123 @@
+-- What the fits test reads of a record, by the numbers that stand there. Assumes that the table's elements are bytes.
+use mathlib.Core.Path.{_≡_, refl, ap, sym, subst, _∙_}
+use mathlib.Core.Bool.{Bool, true, false, cond}
+use mathlib.Core.List.{List}
+use Prim.Native.Nat.{ℕ, _+_, _-_, _^_, _≤_, _<_}
+use native.Mathlib.Omega.{arith}
+use lib.ListN.{length}
+use lib.IntN.{ℤ}
+use lib.Dec.{leb, eqb}
+use borrow.Author.Tests.{le-leb, leb-true, ne-eqb}
+use Rattle.wide.specs.Bytes.{integerAt, wideIn, numberAt, numberIn}
+use Rattle.wide.specs.Text.{integerText}
+use Rattle.wide.proofs.Numbers.{Bytes}
+use Rattle.wide.proofs.Decimals.{integer-top}
+use Rattle.records.specs.Records.{headLen, lenAt, kindAt}
+use Rattle.records.proofs.Heads.{within-is, part-lt}
+use Rattle.table.specs.Kinds.{symbolKind, bindingKind, listKind, integerLen, listLen}
+use Rattle.table.specs.declared.Record.{Record}
+use Rattle.table.specs.declared.Record.the-variants.{Symbol, Integer, Binding, List as ListOf, Bad}
+use Rattle.table.specs.Records.{recordAt}
+use Rattle.table.proofs.Reading.{RecordAt, RecordIn, record-in, read-in}
+use Rattle.printer.specs.PrivateTrees.{Sound}
+use Rattle.printer.specs.PrivateFitting.{entryOf, Forward, Entered}
+use Rattle.printer.specs.declared.cost.Entry.{Entry}
+use Rattle.printer.specs.declared.cost.Entry.the-variants.{Is, Bad as NoEntry}
+
+pub list-small : (t : List ℕ) (at n : ℕ) (x : Record) → Bytes t → x ≡ recordAt t at → x ≡ ListOf n → n < 2 ^ 32
+list-small t at n x hb e e′ = let h = read-in t at x (ListOf n) e e′ in omega (arith, part-lt t (at + headLen) 4 hb (omega arith), h .0)
+
+-- the integer that was read where the record has its 16 bytes
+pub integer-value : (t : List ℕ) (at : ℕ) (z : ℤ) → integerLen ≤ length t - at → z ≡ wideIn t (at + headLen) → z ≡ integerAt t (at + headLen)
+integer-value t at z h e = e ∙ rw (le-leb (at + headLen + 16) (length t) (omega arith)) refl
+
+-- a number that is not 0 was read within the table
+read-within : (k : ℕ) (t : List ℕ) (p : ℕ) → 0 < numberIn k t p → p + k ≤ length t
+read-within k t p = by (leb (p + k) (length t)) refl
+  where
+    by : (x : Bool) → leb (p + k) (length t) ≡ x → 0 < cond x (numberAt k t p) 0 → p + k ≤ length t
+    by true e h = leb-true (p + k) (length t) e
+    by false e h = absurd (omega arith)
+
+-- four bytes are below 2^32, wherever they are read
+pub read-small : (t : List ℕ) (p n : ℕ) → Bytes t → n ≡ numberIn 4 t p → n < 4294967296
+read-small t p n hb e = subst (λ (j : ℕ). j < 4294967296) (sym e) (by (leb (p + 4) (length t)) refl)
+  where
+    by : (x : Bool) → leb (p + 4) (length t) ≡ x → cond x (numberAt 4 t p) 0 < 4294967296
+    by true f = omega (arith, part-lt t p 4 hb (leb-true (p + 4) (length t) f))
+    by false f = omega arith
+
+-- an entry by the length and the kind alone, as the code tests them
+abbrev entryBy : List ℕ → ℕ → ℕ → ℕ → Entry
+entryBy t at len kind =
+    cond (eqb kind symbolKind) (Is (len - headLen) len 0)
+    (cond (eqb kind listKind) (Is (numberIn 4 t (at + headLen) + 1) len (numberIn 4 t (at + headLen)))
+    (cond (eqb kind bindingKind) (Is (len - headLen + 3) len 1)
+    (Is (length (integerText (wideIn t (at + headLen)))) len 0)))
+
+module _ (t : List ℕ) (at len kind : ℕ) (el : len ≡ numberIn 4 t at) (ek : kind ≡ numberIn 2 t (at + 4)) where
+  some-left : (x : Record) → RecordAt t at x → Sound x → headLen ≤ length t - at
+  some-left (Symbol l) h s = omega arith
+  some-left Integer h s = omega arith
+  some-left (Binding l) h s = omega arith
+  some-left (ListOf n) h s = omega arith
+  some-left (Bad n) h s = absurd s
+
+  -- what a record that is not bad says of them
+  abbrev Numbers : Record → Type 0
+  Numbers = RecordIn (length t - at) len kind (numberAt 4 t (at + headLen))
+
+  numbers : (x : Record) → RecordAt t at x → Sound x → Numbers x
+  numbers x h s =
+      let l = some-left x h s in
+      let a : lenAt t at ≡ len = within-is 4 t at len (omega arith) el in
+      let b : kindAt t at ≡ kind = within-is 2 t (at + 4) kind (omega arith) ek in
+      subst (λ (j : ℕ). RecordIn (length t - at) len j (numberAt 4 t (at + headLen)) x) b
+      (subst (λ (j : ℕ). RecordIn (length t - at) j (kindAt t at) (numberAt 4 t (at + headLen)) x) a h)
+
+  entry-is : (x : Record) → Numbers x → Sound x → entryBy t at len kind ≡ entryOf t at x
+  entry-is (Symbol l) h s = rw (h .1, h .0) refl
+  entry-is Integer h s =
+      rw (h .1, h .0) (ap (λ (y : ℤ). Is (length (integerText y)) integerLen 0) (integer-value t at (wideIn t (at + headLen)) (h .2) refl))
+  entry-is (Binding l) h s = rw (h .1, h .0) refl
+  entry-is (ListOf n) h s =
+      let f : numberIn 4 t (at + headLen) ≡ n = sym (within-is 4 t (at + headLen) (numberIn 4 t (at + headLen)) (omega (arith, h .3)) refl) ∙ sym (h .0) in
+      rw (h .2, h .1) (ap (λ (j : ℕ). Is (j + 1) listLen j) f)
+  entry-is (Bad n) h s = absurd s
+
+  entered : (k m : ℕ) → Is k len m ≡ entryBy t at len kind → Bytes t → headLen ≤ len → m < 4294967296 → k ≤ 4294967296 → Entered t at (recordAt t at) (Is k len m)
+  entered k m e hb h6 hm hk =
+      let w = read-within 4 t at (omega (arith, el)) in (
+        (h6, omega arith, read-small t at len hb el, hm, hk),
+        λ s. e ∙ entry-is (recordAt t at) (numbers (recordAt t at) (record-in t at) s) s,
+      )
+
+  pub symbol-entered : kind ≡ symbolKind → Bytes t → headLen ≤ len → Entered t at (recordAt t at) (Is (len - headLen) len 0)
+  symbol-entered e hb h6 = entered (len - headLen) 0 (rw e refl) hb h6 (omega arith) (omega (arith, read-small t at len hb el))
+
+  pub list-entered : (n : ℕ) → n ≡ numberIn 4 t (at + headLen) → kind ≡ listKind → Bytes t → headLen ≤ len → Entered t at (recordAt t at) (Is (n + 1) len n)
+  list-entered n en e hb h6 = let l = read-small t (at + headLen) n hb en in entered (n + 1) n (rw (en, e) refl) hb h6 l (omega arith)
+
+  pub binding-entered : kind ≡ bindingKind → Bytes t → headLen ≤ len → Entered t at (recordAt t at) (Is (len - headLen + 3) len 1)
+  binding-entered e hb h6 = entered (len - headLen + 3) 1 (rw e refl) hb h6 (omega arith) (omega (arith, read-small t at len hb el))
+
+  -- no other kind is left
+  pub integer-entered : (k : ℕ) (z : ℤ) → k ≡ length (integerText z) → z ≡ wideIn t (at + headLen) → (kind ≡ symbolKind → ⊥) → (kind ≡ listKind → ⊥) → (kind ≡ bindingKind → ⊥) → Bytes t
+      → headLen ≤ len → Entered t at (recordAt t at) (Is k len 0)
+  integer-entered k z en ez n1 n4 n3 hb h6 =
+      entered k 0 (rw (en, ez, ne-eqb kind symbolKind n1, ne-eqb kind listKind n4, ne-eqb kind bindingKind n3) refl) hb h6 (omega arith) (omega (arith, integer-top z))
+
+  -- a length below a head's is no record's
+  pub none-entered : len < headLen → Entered t at (recordAt t at) NoEntry
+  none-entered h6 = (tt, λ s. absurd (by (recordAt t at) (numbers (recordAt t at) (record-in t at) s) s))
+    where
+      by : (x : Record) → Numbers x → Sound x → ⊥
+      by (Symbol l) h s = omega arith
+      by Integer h s = omega arith
+      by (Binding l) h s = omega arith
+      by (ListOf n) h s = omega arith
+      by (Bad n) h s = s
+
+-- how far a walk goes on from an entry that was read
+pub entry-on : (t : List ℕ) (p k size m : ℕ) (e : Entry) → Entered t p (recordAt t p) e → e ≡ Is k size m → Forward t p (Is k size m)
+entry-on t p k size m e h ek = subst (Forward t p) ek (h .0)

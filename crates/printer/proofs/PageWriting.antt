@@ -1,0 +1,199 @@
+-- The trees of a table one after the other: what is done of the page, and what is left; and the answer of `print`. Assumes nothing.
+use mathlib.Core.Path.{_≡_, refl, ap, sym, subst, subst⁻¹, _∙_}
+use mathlib.Core.Bool.{Bool, true, false, cond}
+use mathlib.Core.List.{List, [], _∷_, _++_, append-assoc, append-nil}
+use Prim.Native.Nat.{ℕ, _+_, _*_, _-_, _≤_, _<_}
+use native.Mathlib.Omega.{arith}
+use native.Mathlib.Nat.{pos-of-ne-zero}
+use lib.ListN.{length, length-append, take, drop}
+use lib.Dec.{ltb, eqb}
+use borrow.Author.Tests.{lt-ltb, ltb-false, eqb-true, eqb-false, le-leb, lt-leb}
+use borrow.Rule.Slice.PartMut.{putMid}
+use Rattle.refusals.specs.Numbers.{tableLimit, depthLimit, tooLong, printRoom}
+use Rattle.refusals.specs.Result.{Result, ok, refused}
+use Rattle.refusals.specs.declared.Refusal.{Refusal}
+use Rattle.table.specs.Trees.{Tree, Trees, none, more}
+use Rattle.table.specs.Decoding.{Found, found, andThen, treeAt, treesAt, tableOf}
+use Rattle.printer.specs.Layout.{pageFrom, page}
+use Rattle.printer.specs.Printing.{printing, printedInto, printOf}
+use Rattle.printer.specs.PrivateTrees.{Right, treeOf, treesOf, nextOf}
+use Rattle.printer.specs.PrivateWriting.{Filled, Puts, Written, laid, framed}
+use Rattle.printer.specs.PrivateMeasuring.{Summed}
+use Rattle.printer.specs.declared.measure.Measured.{Measured}
+use Rattle.printer.specs.declared.measure.Measured.the-variants.{Bytes, Refused as No}
+use Rattle.printer.specs.declared.Printed.{Printed}
+use Rattle.printer.specs.declared.Printed.the-variants.{Text, Refused}
+use Rattle.table.proofs.Steps.{Read, read-begin, read-tree, read-stop, read-end}
+use Rattle.printer.proofs.ShortRooms.{puts-both}
+
+-- ---- one tree with what stands around it
+
+-- the LF between two trees
+abbrev between : Bool → List ℕ
+between later = cond later (10 ∷ []) []
+
+between-le : (later : Bool) → length (between later) ≤ 1
+between-le true = omega arith
+between-le false = omega arith
+
+framed-le : (later : Bool) (w : ℕ) (x : Tree) → length (framed later w x) ≤ length (laid w 0 0 x) + 2
+framed-le later w x =
+    let s = length-append (between later) (laid w 0 0 x ++ (10 ∷ [])) in
+    let r = length-append (laid w 0 0 x) (10 ∷ []) in
+    omega (arith, between-le later)
+
+first-none : (at : ℕ) → cond (eqb at 0) [] (10 ∷ []) ≡ between (ltb 0 at)
+first-none at = by (eqb at 0) refl
+  where
+    by : (b : Bool) → eqb at 0 ≡ b → cond b [] (10 ∷ []) ≡ between (ltb 0 at)
+    by true e = rw (eqb-true at 0 e) refl
+    by false e = rw (lt-ltb 0 at (pos-of-ne-zero (eqb-false at 0 e))) refl
+
+pub first-le : (at n : ℕ) → n ≡ length {A = ℕ} (cond (eqb at 0) [] (10 ∷ [])) → n ≤ 1
+first-le at n e = omega (arith, ap length (first-none at), between-le (ltb 0 at))
+
+-- the three parts were put into the rest of the room, one after the other
+pub node-out : (at w a l k q r₁ r₂ : ℕ) (y : Result (Found Tree)) (b b₁ b₂ ys zs : List ℕ) → Puts (cond (eqb at 0) [] (10 ∷ [])) a b b₁ → (a ≤ length b₁ → r₁ ≡ a)
+    → Written (laid w 0 0) y q l (take (length b₁ - r₁) (drop r₁ b₁)) ys → b₂ ≡ putMid r₁ (length b₁ - r₁) b₁ ys
+    → (a + l ≤ length b₂ → r₂ ≡ a + l) → Puts (10 ∷ []) k (take (length b₂ - r₂) (drop r₂ b₂)) zs
+    → Written (framed (ltb 0 at) w) y q (a + l + k) b (putMid r₂ (length b₂ - r₂) b₂ zs)
+node-out at w a l k q r₁ r₂ y b b₁ b₂ ys zs fa e₁ fl eb e₂ fk =
+    let o : List ℕ = between (ltb 0 at) in
+    let x : List ℕ = laid w 0 0 (treeOf y) in
+    let fa′ : Puts o a b b₁ = subst (λ (v : List ℕ). Puts v a b b₁) (first-none at) fa in
+    let two = subst⁻¹ (λ (u : List ℕ). Puts (o ++ x) (a + l) b u) eb (puts-both o x b b₁ ys a l r₁ fa′ e₁ (fl .1)) in
+    (fl .0, subst (λ (v : List ℕ). Puts v (a + l + k) b (putMid r₂ (length b₂ - r₂) b₂ zs)) (append-assoc o x (10 ∷ [])) (puts-both (o ++ x) (10 ∷ []) b b₂ zs (a + l) k r₂ two e₂ fk))
+
+-- ---- of the page the bytes o are done, and the trees from p are left
+
+pub record Paging (t : List ℕ) (w : ℕ) (o : List ℕ) (p : ℕ) : Type 0 where
+  pub read : Read t true p
+  pub left : (ys : Trees) → page (read .pre ys) w ≡ o ++ pageFrom (ltb 0 p) ys w
+
+more-page : (later : Bool) (x : Tree) (xs : Trees) (w : ℕ) → pageFrom later (more x xs) w ≡ between later ++ (laid w 0 0 x ++ (10 ∷ pageFrom true xs w))
+unfolding pageFrom
+more-page later x xs w = refl
+
+-- the bytes of the tree at p
+abbrev pub node : List ℕ → ℕ → ℕ → List ℕ
+node t w p = framed (ltb 0 p) w (treeOf (treeAt t true depthLimit p))
+
+paging-step : (t : List ℕ) (w : ℕ) (o : List ℕ) (p : ℕ) → Paging t w o p → p < length t → Right (tableOf true t)
+    → Right (treeAt t true depthLimit p) × Paging t w (o ++ node t w p) (nextOf (treeAt t true depthLimit p))
+paging-step t w o p g l r = by (treeAt t true depthLimit p) refl
+  where
+    join : (a b c d : List ℕ) → a ++ (b ++ (c ++ (10 ∷ d))) ≡ (a ++ (b ++ (c ++ (10 ∷ [])))) ++ d
+    join a b c d = simp append-assoc
+
+    by : (y : Result (Found Tree)) → treeAt t true depthLimit p ≡ y → Right y × Paging t w (o ++ framed (ltb 0 p) w (treeOf y)) (nextOf y)
+    by (refused n a) e = absurd (subst Right (read-stop t true p (g .read) n a l e) r)
+    by (ok (found x q)) e =
+        let n = read-tree t true p (g .read) q x l e in (
+          tt,
+          record {
+            read = n .rest;
+            left =
+                λ ys.
+                ap (λ (xs : Trees). page xs w) (n .pre-is ys) ∙ g .left (more x ys) ∙ ap (λ (s : List ℕ). o ++ s) (more-page (ltb 0 p) x ys w)
+                ∙ join o (between (ltb 0 p)) (laid w 0 0 x) (pageFrom true ys w)
+                ∙ ap (λ (b : Bool). (o ++ framed (ltb 0 p) w x) ++ pageFrom b ys w) (sym (lt-ltb 0 q (omega (arith, n .past))));
+          },
+        )
+
+paging-end : (t : List ℕ) (w : ℕ) (o : List ℕ) (p : ℕ) → Paging t w o p → length t ≤ p → page (treesOf (tableOf true t)) w ≡ o
+unfolding pageFrom
+paging-end t w o p g l = ap (λ (y : Result (Found Trees)). page (treesOf y) w) (read-end t true p (g .read) l) ∙ g .left none ∙ append-nil o
+
+-- n bytes are done
+pub record Pages (t : List ℕ) (w : ℕ) (b₀ b : List ℕ) (n p : ℕ) : Type 0 where
+  pub o : List ℕ
+  pub paging : Paging t w o p
+  pub right : Right (tableOf true t)
+  pub held : Puts o n b₀ b
+  pub small : n ≤ 128 * p
+  pub kept : length b ≡ length b₀
+
+short : (t : List ℕ) → Right (tableOf true t) → length t ≤ tableLimit
+unfolding tableOf
+short t r = by (ltb tableLimit (length t)) refl r
+  where
+    by : (b : Bool) → ltb tableLimit (length t) ≡ b → Right (cond b (refused tooLong tableLimit) (treesAt t true (length t + 1) 0)) → length t ≤ tableLimit
+    by true e k = absurd k
+    by false e k = ltb-false tableLimit (length t) e
+
+pub pages-begin : (t : List ℕ) (w : ℕ) (b : List ℕ) → Right (tableOf true t) → Pages t w b b 0 0
+pages-begin t w b r = record {
+  o = [];
+  paging = record { read = read-begin t true (short t r); left = λ ys. refl };
+  right = r;
+  held = (refl, λ l. refl);
+  small = omega arith;
+  kept = refl;
+}
+
+module _ {t : List ℕ} {w : ℕ} {b₀ b : List ℕ} {n p : ℕ} (h : Pages t w b₀ b n p) where
+  step : p < length t → Right (treeAt t true depthLimit p) × Paging t w (h .o ++ node t w p) (nextOf (treeAt t true depthLimit p))
+  step l = paging-step t w (h .o) p (h .paging) l (h .right)
+
+  pub within : p ≤ length t
+  within = h .paging .read .within
+
+  pub limit : length t ≤ tableLimit
+  limit = h .paging .read .limit
+
+  pub pages-tree : p < length t → Right (treeAt t true depthLimit p)
+  pages-tree l = step l .0
+
+  pub pages-step : p < length t → (q l r : ℕ) (ys : List ℕ) → Written (framed (ltb 0 p) w) (treeAt t true depthLimit p) q l (take (length b - r) (drop r b)) ys
+      → (length (laid w 0 0 (treeOf (treeAt t true depthLimit p))) + 300 ≤ 128 * (nextOf (treeAt t true depthLimit p) - p)) × (p < nextOf (treeAt t true depthLimit p))
+      × (nextOf (treeAt t true depthLimit p) ≤ length t) → (n ≤ length b → r ≡ n) → length (putMid r (length b - r) b ys) ≡ length b
+      → Pages t w b₀ (putMid r (length b - r) b ys) (n + l) q
+  pages-step lt q l r ys f s er lk =
+      let z = framed-le (ltb 0 p) w (treeOf (treeAt t true depthLimit p)) in
+      record {
+        o = h .o ++ node t w p;
+        paging = subst⁻¹ (λ (v : ℕ). Paging t w (h .o ++ node t w p) v) (f .0) (step lt .1);
+        right = h .right;
+        held = puts-both (h .o) (node t w p) b₀ b ys n l r (h .held) er (f .1);
+        small = omega (arith, s .0, s .1, h .small, f .0, f .1 .0, z);
+        kept = lk ∙ h .kept;
+      }
+
+  pub pages-end : length t ≤ p → Puts (page (treesOf (tableOf true t)) w) n b₀ b
+  pages-end l = subst⁻¹ (λ (o : List ℕ). Puts o n b₀ b) (paging-end t w (h .o) p (h .paging) l) (h .held)
+
+-- ---- the answer
+
+abbrev Answer : List ℕ → ℕ → List ℕ → List ℕ → Printed → Type 0
+Answer t w b b′ r = (printOf r ≡ printing t w (length b)) × (b′ ≡ printedInto t w b)
+
+pub print-right : (y : Result (Found Trees)) (w n : ℕ) (x : Measured) → Summed y w x → x ≡ Bytes n → Right y × (n ≡ length (page (treesOf y) w))
+print-right (ok (found xs q)) w n x s e = (tt, subst (Summed (ok (found xs q)) w) e s)
+print-right (refused m a) w n x s e = absurd (subst (Summed (refused m a) w) e s)
+
+refused-of : (y : Result (Found Trees)) (w : ℕ) (r : Refusal) → Summed y w (No r) → y ≡ refused (r .number) (r .place)
+refused-of (ok (found xs q)) w r s = absurd s
+refused-of (refused n a) w r s = rw (s .0, s .1) refl
+
+pub print-no : (t : List ℕ) (w : ℕ) (b : List ℕ) (x : Measured) (r : Refusal) → Summed (tableOf true t) w x → x ≡ No r → Answer t w b b (Refused r)
+unfolding printing printedInto
+print-no t w b x r s e = rw (refused-of (tableOf true t) w r (subst (Summed (tableOf true t) w) e s)) (refl, refl)
+
+module _ (t : List ℕ) (n w : ℕ) (b : List ℕ) (r : Right (tableOf true t)) (e : n ≡ length (page (treesOf (tableOf true t)) w)) where
+  short-of : (y : Result (Found Trees)) → Right y → n ≡ length (page (treesOf y) w) → tableOf true t ≡ y → length b < n → Answer t w b b (Refused (record { number = printRoom; place = n }))
+  unfolding printing printedInto
+  short-of (refused m c) ry f ey l = absurd ry
+  short-of (ok (found xs q)) ry f ey l = rw (ey, lt-leb (length (page xs w)) (length b) (omega arith)) (ap (refused printRoom) f, refl)
+
+  pub print-short : length b < n → Answer t w b b (Refused (record { number = printRoom; place = n }))
+  print-short l = short-of (tableOf true t) r e refl l
+
+  text-of : (y : Result (Found Trees)) → Right y → n ≡ length (page (treesOf y) w) → tableOf true t ≡ y → n ≤ length b → (b′ : List ℕ) → Filled (page (treesOf y) w) b b′ → Answer t w b b′ (Text n)
+  unfolding printing printedInto
+  text-of (refused m c) ry f ey l b′ g = absurd ry
+  text-of (ok (found xs q)) ry f ey l b′ g =
+      let k : length (page xs w) ≤ length b = omega arith in
+      rw (ey, le-leb (length (page xs w)) (length b) k) (ap ok f, g k)
+
+  pub print-text : n ≤ length b → (b′ : List ℕ) → Filled (page (treesOf (tableOf true t)) w) b b′ → Answer t w b b′ (Text n)
+  print-text l b′ g = text-of (tableOf true t) r e refl l b′ g
