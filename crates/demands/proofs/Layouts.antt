@@ -12,7 +12,7 @@ use Rattle.records.specs.Records.{record-of, headAt}
 use Rattle.table.specs.Trees.{Tree, Trees, symbol, integer, binding, list, none, more, runsOn, isSymbol, records, recordsOf}
 use Rattle.table.specs.Records.{recordAt}
 use Rattle.table.specs.Decoding.{itemsAt, stepAt, treeAt, treesAt, tableOf}
-use Rattle.printer.specs.Layout.{cost, lay, pageFrom, page}
+use Rattle.printer.specs.Layout.{breakColumn, fitsIn, cost, lay, pageFrom, page}
 use Rattle.printer.specs.Printing.{printing, printedInto}
 
 pub record Case : Type 0 where
@@ -61,18 +61,18 @@ cases =
     ∷ []
 
 pub pages : map (λ (c : Case). page (c .trees) (c .width)) cases ≡ map (λ (c : Case). c .text) cases
-unfolding cases cost lay pageFrom integerText digits
+unfolding cases breakColumn fitsIn cost lay pageFrom integerText digits
 pages = refl
 
 pub sizes : map (λ (c : Case). length (page (c .trees) (c .width))) cases ≡ map (λ (c : Case). c .size) cases
-unfolding cases cost lay pageFrom integerText digits
+unfolding cases breakColumn fitsIn cost lay pageFrom integerText digits
 sizes = refl
 
 -- the same of their tables: the answer of `print`, and a buffer of that size after it
 pub answers : map (λ (c : Case). printing (recordsOf (c .trees)) (c .width) (c .size)) cases ≡ map (λ (c : Case). ok (c .size)) cases
-unfolding cases cost lay pageFrom integerText digits printing tableOf treesAt treeAt itemsAt recordAt headAt stepAt number isSymbol runsOn classOf records record-of le
+unfolding cases breakColumn fitsIn cost lay pageFrom integerText digits printing tableOf treesAt treeAt itemsAt recordAt headAt stepAt number isSymbol runsOn classOf records record-of le
 answers = refl
 
 pub buffers : map (λ (c : Case). printedInto (recordsOf (c .trees)) (c .width) (replicate (c .size) 0)) cases ≡ map (λ (c : Case). c .text) cases
-unfolding cases cost lay pageFrom integerText digits printedInto tableOf treesAt treeAt itemsAt recordAt headAt stepAt number isSymbol runsOn classOf records record-of le
+unfolding cases breakColumn fitsIn cost lay pageFrom integerText digits printedInto tableOf treesAt treeAt itemsAt recordAt headAt stepAt number isSymbol runsOn classOf records record-of le
 buffers = refl

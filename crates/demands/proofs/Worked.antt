@@ -13,10 +13,10 @@ use Rattle.table.specs.Records.{recordAt}
 use Rattle.table.specs.Decoding.{itemsAt, stepAt, treeAt, treesAt, tableOf}
 use Rattle.reader.specs.Grammar.{readItems, readTree, fileOf}
 use Rattle.reader.specs.Reading.{reading, readInto}
-use Rattle.printer.specs.Layout.{cost, lay, pageFrom}
+use Rattle.printer.specs.Layout.{breakColumn, fitsIn, cost, lay, pageFrom}
 use Rattle.printer.specs.Printing.{printing, printedInto}
 use Rattle.demands.specs.Worked.{cases, Worked}
 
 pub worked : Worked
-unfolding cases tokensFrom nextToken lexIn skip symbolEnd classOf literalByte digitOf taken grow digitsRead literalEnd radixOf concluded unsignedIn val grown integerOf reading readInto fileOf readItems readTree records record-of headAt le number printing printedInto tableOf treesAt treeAt itemsAt recordAt stepAt isSymbol runsOn pageFrom lay cost digits integerText
+unfolding cases tokensFrom nextToken lexIn skip symbolEnd classOf literalByte digitOf taken grow digitsRead literalEnd radixOf concluded unsignedIn val grown integerOf reading readInto fileOf readItems readTree records record-of headAt le number printing printedInto tableOf treesAt treeAt itemsAt recordAt stepAt isSymbol runsOn pageFrom lay cost breakColumn fitsIn digits integerText
 worked = refl

@@ -11,7 +11,7 @@ use Rattle.records.specs.Records.{record-of, headAt}
 use Rattle.table.specs.Trees.{Tree, Trees, symbol, none, more, runsOn, isSymbol, records}
 use Rattle.table.specs.Records.{recordAt}
 use Rattle.table.specs.Decoding.{itemsAt, stepAt, treeAt, treesAt, tableOf}
-use Rattle.printer.specs.Layout.{cost, lay, pageFrom, page}
+use Rattle.printer.specs.Layout.{breakColumn, fitsIn, cost, lay, pageFrom, page}
 use Rattle.printer.specs.Printing.{printedInto}
 use Rattle.demands.proofs.Layouts.{rule}
 
@@ -27,7 +27,7 @@ a = symbol (97 ∷ [])
 
 -- at width 13 the sixth byte of `(rule (a b) c)` is LF, on one line it is a space
 pub one-line-text : ((xs : Trees) (w : ℕ) → page xs widest ≡ page xs w) → ⊥
-unfolding cost lay pageFrom
+unfolding breakColumn fitsIn cost lay pageFrom
 one-line-text f = let e : _≡_ {A = ℕ} 32 10 = ap (λ (l : List ℕ). getD l 5 0) (f (more rule none) 13) in omega arith
 
 -- no bytes are the text both of no tree and of one
@@ -54,7 +54,7 @@ abbrev pub untouched : Printer
 untouched t w b = b
 
 pub one-line : Keeps oneLine → ⊥
-unfolding printedInto tableOf treesAt treeAt itemsAt recordAt headAt stepAt number isSymbol runsOn classOf cost lay pageFrom records record-of le
+unfolding printedInto tableOf treesAt treeAt itemsAt recordAt headAt stepAt number isSymbol runsOn classOf breakColumn fitsIn cost lay pageFrom records record-of le
 one-line f = let e : _≡_ {A = ℕ} 32 10 = ap (λ (l : List ℕ). getD l 5 0) (f (records rule) 13 (replicate 24 0)) in omega arith
 
 -- the empty table leaves the buffer, and the table of `a` changes it
