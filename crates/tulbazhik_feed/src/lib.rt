@@ -23,7 +23,7 @@ pub extern "C" fn tulbazhik_feed(state: &mut [u64; 8], piece: &[u8], answer: &mu
     let s = f.state;
     let o = f.out;
     *state = states::pack(s);
-    *answer = words::of_out(o);
+    words::put_out(o, answer);
 }
 
 // The source's end, in the state lent.
@@ -35,5 +35,5 @@ pub extern "C" fn tulbazhik_close(state: &mut [u64; 8], answer: &mut [u64; 8])
     let s = f.state;
     let o = f.out;
     *state = states::pack(s);
-    *answer = words::of_out(o);
+    words::put_out(o, answer);
 }

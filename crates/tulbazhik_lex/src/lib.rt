@@ -9,5 +9,5 @@ ghost use Rattle.words.specs.Words.{answerWords};
 pub extern "C" fn tulbazhik_next_token(src: &[u8], at: usize, answer: &mut [u64; 8])
     ensures { λ _. ⌜ now (answer .exit) ≡ answerWords (nextToken (now (src .entry)) at) ⌝ }
 {
-    *answer = words::of_lexed(lexer::next_token(src, at));
+    words::put_lexed(lexer::next_token(src, at), answer);
 }

@@ -13,7 +13,7 @@ use mir.ValLaws.{toZ-ofZ}
 use Rattle.refusals.specs.Result.{Result, ok, refused}
 use Rattle.lexer.specs.Tokens.{Kind, lparen, rparen, at-sign, symbol, int, Token, token, Answer, end, is}
 use Rattle.feeder.specs.Feeding.{Reply, more, finish, ready, Fed}
-use Rattle.words.specs.Words.{kindWords, answerWords, replyWords, fedWords, lengthWords, endKind, lparenKind, rparenKind, atKind, symbolKind, refusedKind, moreKind}
+use Rattle.words.specs.Words.{kindWord, highWord, lowWord, tokenWords, answerWords, replyWords, fedWords, lengthWords, endKind, lparenKind, rparenKind, atKind, symbolKind, refusedKind, moreKind}
 
 -- an integer of 128 bits, as every token has
 abbrev pub KindFits : Kind → Type 0
@@ -60,55 +60,49 @@ lengthIn w = cond (eqb (getD w 0 0) refusedKind) (refused (getD w 2 0) (getD w 1
 joined : (z : ℤ) → SFits w128 z → toZ w128 (ofZ w128 z / 2 ^ 64 * 2 ^ 64 + ofZ w128 z % 2 ^ 64) ≡ z
 joined z f = let e : ofZ w128 z / 2 ^ 64 * 2 ^ 64 + ofZ w128 z % 2 ^ 64 ≡ ofZ w128 z = omega arith in ap (toZ w128) e ∙ toZ-ofZ w128 z f
 
-token-of : (k : Kind) (s n u : ℕ) → KindFits k → tokenIn (kindWords k s n u) ≡ token k s n
-token-of lparen s n u f = refl
-token-of rparen s n u f = refl
-token-of at-sign s n u f = refl
-token-of symbol s n u f = refl
-token-of (int z) s n u f = ap (λ (y : ℤ). token (int y) s n) (joined z f)
+kind-back : (k : Kind) → KindFits k → kindIn (kindWord k) (highWord k) (lowWord k) ≡ k
+kind-back lparen f = refl
+kind-back rparen f = refl
+kind-back at-sign f = refl
+kind-back symbol f = refl
+kind-back (int z) f = ap int (joined z f)
 
--- the words of a token are read as a token
-answer-of : (k : Kind) (s n u : ℕ) → answerIn (kindWords k s n u) ≡ ok (is (tokenIn (kindWords k s n u)))
-answer-of lparen s n u = refl
-answer-of rparen s n u = refl
-answer-of at-sign s n u = refl
-answer-of symbol s n u = refl
-answer-of (int z) s n u = refl
+token-back : (t : Token) (u : ℕ) → KindFits (t .kind) → tokenIn (tokenWords t u) ≡ t
+token-back t u f = ap (λ (k : Kind). token k (t .start) (t .size)) (kind-back (t .kind) f)
 
-reply-of : (k : Kind) (s n u : ℕ) → replyIn (kindWords k s n u) ≡ ok (ready (tokenIn (kindWords k s n u)))
-reply-of lparen s n u = refl
-reply-of rparen s n u = refl
-reply-of at-sign s n u = refl
-reply-of symbol s n u = refl
-reply-of (int z) s n u = refl
+-- a token's word 0 is no other answer's
+told-answer : (k : Kind) (x y z : Answer) → cond (eqb (kindWord k) endKind) x (cond (eqb (kindWord k) refusedKind) y z) ≡ z
+told-answer lparen x y z = refl
+told-answer rparen x y z = refl
+told-answer at-sign x y z = refl
+told-answer symbol x y z = refl
+told-answer (int i) x y z = refl
+
+told-reply : (k : Kind) (w x y z : Result Reply) → cond (eqb (kindWord k) endKind) w (cond (eqb (kindWord k) refusedKind) x (cond (eqb (kindWord k) moreKind) y z)) ≡ z
+told-reply lparen w x y z = refl
+told-reply rparen w x y z = refl
+told-reply at-sign w x y z = refl
+told-reply symbol w x y z = refl
+told-reply (int i) w x y z = refl
 
 answer-back : (a : Answer) → AnswerFits a → answerIn (answerWords a) ≡ a
 unfolding answerWords
 answer-back (ok end) f = refl
-answer-back (ok (is t)) f =
-    answer-of (t .kind) (t .start) (t .size) 0 ∙ ap (λ (x : Token). ok (is x)) (token-of (t .kind) (t .start) (t .size) 0 f)
+answer-back (ok (is t)) f = told-answer (t .kind) _ _ _ ∙ ap (λ (x : Token). ok (is x)) (token-back t 0 f)
 answer-back (refused n a) f = refl
 
 reply-back : (r : Result Reply) (u : ℕ) → ReplyFits r → replyIn (replyWords r u) ≡ r
 unfolding replyWords
 reply-back (ok more) u f = refl
 reply-back (ok finish) u f = refl
-reply-back (ok (ready t)) u f =
-    reply-of (t .kind) (t .start) (t .size) u ∙ ap (λ (x : Token). ok (ready x)) (token-of (t .kind) (t .start) (t .size) u f)
+reply-back (ok (ready t)) u f = told-reply (t .kind) _ _ _ _ ∙ ap (λ (x : Token). ok (ready x)) (token-back t u f)
 reply-back (refused n a) u f = refl
-
-kind-used : (k : Kind) (s n u : ℕ) → getD (kindWords k s n u) 5 0 ≡ u
-kind-used lparen s n u = refl
-kind-used rparen s n u = refl
-kind-used at-sign s n u = refl
-kind-used symbol s n u = refl
-kind-used (int z) s n u = refl
 
 pub used-back : (r : Result Reply) (u : ℕ) → getD (replyWords r u) 5 0 ≡ u
 unfolding replyWords
 used-back (ok more) u = refl
 used-back (ok finish) u = refl
-used-back (ok (ready t)) u = kind-used (t .kind) (t .start) (t .size) u
+used-back (ok (ready t)) u = refl
 used-back (refused n a) u = refl
 
 length-back : (r : Result ℕ) → lengthIn (lengthWords r) ≡ r

@@ -40,16 +40,30 @@ doneKind = 8
 abbrev pub eight : ℕ → ℕ → ℕ → ℕ → ℕ → ℕ → List ℕ
 eight k p n h l u = k ∷ p ∷ n ∷ h ∷ l ∷ u ∷ 0 ∷ 0 ∷ []
 
--- the words of a token of a kind, at a start, of a length, with the bytes consumed
-abbrev pub kindWords : Kind → ℕ → ℕ → ℕ → List ℕ
-kindWords lparen s n u = eight lparenKind s n 0 0 u
-kindWords rparen s n u = eight rparenKind s n 0 0 u
-kindWords at-sign s n u = eight atKind s n 0 0 u
-kindWords symbol s n u = eight symbolKind s n 0 0 u
-kindWords (int z) s n u = eight intKind s n (ofZ w128 z / 2 ^ 64) (ofZ w128 z % 2 ^ 64) u
+abbrev pub kindWord : Kind → ℕ
+kindWord lparen = lparenKind
+kindWord rparen = rparenKind
+kindWord at-sign = atKind
+kindWord symbol = symbolKind
+kindWord (int z) = intKind
 
+abbrev pub highWord : Kind → ℕ
+highWord lparen = 0
+highWord rparen = 0
+highWord at-sign = 0
+highWord symbol = 0
+highWord (int z) = ofZ w128 z / 2 ^ 64
+
+abbrev pub lowWord : Kind → ℕ
+lowWord lparen = 0
+lowWord rparen = 0
+lowWord at-sign = 0
+lowWord symbol = 0
+lowWord (int z) = ofZ w128 z % 2 ^ 64
+
+-- of a token, with the bytes consumed; below u is always those
 abbrev pub tokenWords : Token → ℕ → List ℕ
-tokenWords t u = kindWords (t .kind) (t .start) (t .size) u
+tokenWords t u = eight (kindWord (t .kind)) (t .start) (t .size) (highWord (t .kind)) (lowWord (t .kind)) u
 
 abbrev pub endWords : ℕ → List ℕ
 endWords u = eight endKind 0 0 0 0 u

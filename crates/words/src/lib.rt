@@ -7,7 +7,7 @@ use refusals::Refusal;
 ghost use mathlib.Core.Path.{_≡_};
 ghost use Rattle.lexer.specs.Tokens.{tokenOf, answerOf};
 ghost use Rattle.feeder.specs.Feeding.{replyOf};
-ghost use Rattle.words.specs.Words.{tokenWords, refusedWords, doneWords, answerWords, replyWords};
+ghost use Rattle.words.specs.Words.{kindWord, tokenWords, refusedWords, doneWords, answerWords, replyWords};
 
 pub const END: u64 = 0;
 
@@ -27,26 +27,61 @@ pub const MORE: u64 = 7;
 
 pub const DONE: u64 = 8;
 
-// A token, and the bytes consumed.
-pub fn of_token(t: Token, start: usize, used: usize) -> [u64; 8]
-    ensures { λ r. ⌜ r ≡ tokenWords (tokenOf t start) used ⌝ }
+fn kind_of(t: Token) -> u64
+    ensures { λ r. ⌜ r ≡ kindWord (tokenOf t 0 .kind) ⌝ }
 {
-    let s = start as u64;
-    let u = used as u64;
     match t {
-        Token::LParen => [LPAREN, s, 1, 0, 0, u, 0, 0],
-        Token::RParen => [RPAREN, s, 1, 0, 0, u, 0, 0],
-        Token::At => [AT, s, 1, 0, 0, u, 0, 0],
-        Token::Symbol(n) => [SYMBOL, s, n as u64, 0, 0, u, 0, 0],
-        Token::Int(w, n) => [INT, s, n as u64, wide::as_unsigned(w.hi), w.lo, u, 0, 0],
+        Token::LParen => LPAREN,
+        Token::RParen => RPAREN,
+        Token::At => AT,
+        Token::Symbol(n) => SYMBOL,
+        Token::Int(w, n) => INT,
+    }
+}
+
+fn size_of(t: Token) -> u64
+    ensures { λ r. ⌜ r ≡ tokenOf t 0 .size ⌝ }
+{
+    match t {
+        Token::LParen => 1,
+        Token::RParen => 1,
+        Token::At => 1,
+        Token::Symbol(n) => n as u64,
+        Token::Int(w, n) => n as u64,
+    }
+}
+
+// A token, and the bytes consumed. An integer's limbs are written over the zeros that all other tokens have there: so the compiler keeps the two apart.
+pub fn put_token(t: Token, start: usize, used: usize, answer: &mut [u64; 8])
+    ensures { λ _. ⌜ now (answer .exit) ≡ tokenWords (tokenOf t start) used ⌝ }
+{
+    *answer = [
+        kind_of(t),
+        start as u64,
+        size_of(t),
+        0,
+        0,
+        used as u64,
+        0,
+        0,
+    ];
+    match t {
+        Token::LParen => {}
+        Token::RParen => {}
+        Token::At => {}
+        Token::Symbol(n) => {}
+        Token::Int(w, n) => {
+            answer[3] = wide::as_unsigned(w.hi);
+            answer[4] = w.lo;
+        }
     }
 }
 
 // A refusal, and the bytes consumed.
-pub fn of_refusal(r: Refusal, used: usize) -> [u64; 8]
-    ensures { λ w. ⌜ w ≡ refusedWords (r .number) (r .place) used ⌝ }
+pub fn put_refusal(r: Refusal, used: usize, answer: &mut [u64; 8])
+    ensures { λ _. ⌜ now (answer .exit) ≡ refusedWords (r .number) (r .place) used ⌝ }
 {
-    [
+    *answer = [
         REFUSED,
         r.place as u64,
         r.number as u64,
@@ -55,37 +90,43 @@ pub fn of_refusal(r: Refusal, used: usize) -> [u64; 8]
         used as u64,
         0,
         0,
-    ]
+    ];
 }
 
 // So many bytes were written into the room lent.
-pub fn of_length(n: usize) -> [u64; 8]
-    ensures { λ r. ⌜ r ≡ doneWords n ⌝ }
+pub fn put_length(n: usize, answer: &mut [u64; 8])
+    ensures { λ _. ⌜ now (answer .exit) ≡ doneWords n ⌝ }
 {
-    [DONE, 0, n as u64, 0, 0, 0, 0, 0]
+    *answer = [DONE, 0, n as u64, 0, 0, 0, 0, 0];
 }
 
 // The uncut lexer's answer.
-pub fn of_lexed(l: Lexed) -> [u64; 8]
-    ensures { λ r. ⌜ r ≡ answerWords (answerOf l) ⌝ }
+pub fn put_lexed(l: Lexed, answer: &mut [u64; 8])
+    ensures { λ _. ⌜ now (answer .exit) ≡ answerWords (answerOf l) ⌝ }
 {
     match l {
-        Lexed::End => [END, 0, 0, 0, 0, 0, 0, 0],
-        Lexed::Token(t, start) => of_token(t, start, 0),
-        Lexed::Refused(r) => of_refusal(r, 0),
+        Lexed::End => {
+            *answer = [END, 0, 0, 0, 0, 0, 0, 0];
+        }
+        Lexed::Token(t, start) => put_token(t, start, 0, answer),
+        Lexed::Refused(r) => put_refusal(r, 0, answer),
     }
 }
 
 // A call's answer, and the bytes consumed.
-pub fn of_out(o: Out) -> [u64; 8]
-    ensures { λ r. ⌜ r ≡ replyWords (replyOf (o .answer)) (o .used) ⌝ }
+pub fn put_out(o: Out, answer: &mut [u64; 8])
+    ensures { λ _. ⌜ now (answer .exit) ≡ replyWords (replyOf (o .answer)) (o .used) ⌝ }
 {
     let a = o.answer;
     let used = o.used;
     match a {
-        Answer::More => [MORE, 0, 0, 0, 0, used as u64, 0, 0],
-        Answer::End => [END, 0, 0, 0, 0, used as u64, 0, 0],
-        Answer::Token(t, start) => of_token(t, start, used),
-        Answer::Refused(r) => of_refusal(r, used),
+        Answer::More => {
+            *answer = [MORE, 0, 0, 0, 0, used as u64, 0, 0];
+        }
+        Answer::End => {
+            *answer = [END, 0, 0, 0, 0, used as u64, 0, 0];
+        }
+        Answer::Token(t, start) => put_token(t, start, used, answer),
+        Answer::Refused(r) => put_refusal(r, used, answer),
     }
 }

@@ -18,15 +18,15 @@ feed-requires c κs = search needs
 pack-requires : tie.Need-pack-requires
 pack-requires c κs = search needs
 
-of-out-requires : tie.Need-of-out-requires
-of-out-requires c κs = search needs
+put-out-requires : tie.Need-put-out-requires
+put-out-requires c κs = search needs
 
 returns : tie.Need-returns
 returns c =
-    let a = c .before .before .before .before .before .before .before .before .args in
-    let e : fedOf (c .before .before .before .before .feed .result) ≡ feedOf (unpackOf (now (a .state))) (now (a .piece)) = c .before .before .before .before .feed .ensures ∙ ap (λ (s : State). feedOf s (now (a .piece))) (c .before .before .before .before .before .unpack .ensures) in
-    (c .before .pack .ensures ∙ ap stateWords e, c .of-out .ensures ∙ ap fedWords e)
+    let a = c .before .before .before .before .before .before .before .before .before .args in
+    let e : fedOf (c .before .before .before .before .before .feed .result) ≡ feedOf (unpackOf (now (a .state))) (now (a .piece)) = c .before .before .before .before .before .feed .ensures ∙ ap (λ (s : State). feedOf s (now (a .piece))) (c .before .before .before .before .before .before .unpack .ensures) in
+    (c .before .before .pack .ensures ∙ ap stateWords e, c .put-out .ensures ∙ ap fedWords e)
 
 pub tulbazhik-feed-spec : {M : Type 1} → statement M
 tulbazhik-feed-spec =
-    tie.close (tie.spec unpack-requires feed-requires pack-requires of-out-requires returns)
+    tie.close (tie.spec unpack-requires feed-requires pack-requires put-out-requires returns)

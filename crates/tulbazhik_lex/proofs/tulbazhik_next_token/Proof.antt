@@ -7,11 +7,11 @@ use Rattle.tulbazhik_lex.proofs.tulbazhik_next_token.Tie as tie
 next-token-requires : tie.Need-next-token-requires
 next-token-requires c κs = search needs
 
-of-lexed-requires : tie.Need-of-lexed-requires
-of-lexed-requires c κs = search needs
+put-lexed-requires : tie.Need-put-lexed-requires
+put-lexed-requires c κs = search needs
 
 returns : tie.Need-returns
-returns c = rw (c .of-lexed .ensures, c .before .next-token .ensures) refl
+returns c = rw (c .put-lexed .ensures, c .before .before .next-token .ensures) refl
 
 pub tulbazhik-next-token-spec : {M : Type 1} → statement M
-tulbazhik-next-token-spec = tie.close (tie.spec next-token-requires of-lexed-requires returns)
+tulbazhik-next-token-spec = tie.close (tie.spec next-token-requires put-lexed-requires returns)

@@ -1,2 +1,0 @@
--- The law behind the words.
-pub mod Injective

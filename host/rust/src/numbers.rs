@@ -1,0 +1,54 @@
+//! The numbers of refusals by name, and the limits. An [`Error`](crate::Error) has one of these as its number.
+
+/// Bytes of a source.
+pub const SOURCE_LIMIT: usize = 1_048_576;
+/// Bytes of a table; enough for the table of any source.
+pub const TABLE_LIMIT: usize = 16_777_216;
+/// Lists and bindings open at once.
+pub const DEPTH_LIMIT: usize = 64;
+
+pub const TOO_LONG: u8 = 1;
+pub const PAST_SOURCE: u8 = 2;
+pub const FORM_FEED: u8 = 3;
+pub const OPEN_COMMENT: u8 = 4;
+pub const NO_DIGITS: u8 = 5;
+pub const FOREIGN_DIGIT: u8 = 6;
+pub const TOO_LARGE: u8 = 7;
+pub const MINUS_LOWEST: u8 = 8;
+pub const NO_LIST_OPEN: u8 = 9;
+pub const LIST_OPEN: u8 = 10;
+pub const NO_SYMBOL: u8 = 11;
+pub const NO_TREE: u8 = 12;
+pub const TOO_DEEP: u8 = 13;
+pub const TABLE_ROOM: u8 = 14;
+pub const BAD_RECORD: u8 = 15;
+pub const BAD_SYMBOL: u8 = 16;
+pub const LOWEST: u8 = 17;
+pub const PRINT_ROOM: u8 = 18;
+pub const FED_AFTER_CLOSE: u8 = 19;
+
+/// What a number says.
+pub fn meaning(number: u8) -> &'static str {
+    match number {
+        TOO_LONG => "longer than the limit",
+        PAST_SOURCE => "the start is past the source",
+        FORM_FEED => "a form feed stands where a token should start",
+        OPEN_COMMENT => "a block comment is still open at the end",
+        NO_DIGITS => "a literal has no digits",
+        FOREIGN_DIGIT => "a digit is foreign to the literal's radix",
+        TOO_LARGE => "a literal is above 2^128-1",
+        MINUS_LOWEST => "a minus stands before 2^127",
+        NO_LIST_OPEN => "`)` with no list open",
+        LIST_OPEN => "a list is still open at the end",
+        NO_SYMBOL => "the token before `@` is no symbol",
+        NO_TREE => "no tree follows a binding's `@`",
+        TOO_DEEP => "more than 64 lists and bindings are open",
+        TABLE_ROOM => "the table needs more room, in bytes",
+        BAD_RECORD => "a bad record, or trees are missing",
+        BAD_SYMBOL => "a symbol that the lexer would not read as one",
+        LOWEST => "the integer -2^127 has no spelling to print",
+        PRINT_ROOM => "the print needs more room, in bytes",
+        FED_AFTER_CLOSE => "fed after a close",
+        _ => "unknown",
+    }
+}
