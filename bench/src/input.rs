@@ -4,7 +4,7 @@ use crate::generate;
 use crate::lexer::{Lexer, Token};
 use crate::printer::SExpr;
 
-/// The longest source that the kit takes, the part that growth is measured from, and one whose table and text fit the program's rooms.
+/// The longest source that the library takes, the part that growth is measured from, and one whose table and text fit the program's rooms.
 const LIMIT: usize = 1_048_576;
 const PART: usize = 65_536;
 const SMALL: usize = 24_576;

@@ -4,7 +4,7 @@ use std::hint::black_box;
 use std::panic::{AssertUnwindSafe, catch_unwind};
 use std::time::{Duration, Instant};
 
-use crate::ffi;
+use crate::ffi::{self, kind};
 use crate::input::{self, Tree};
 use crate::lexer::Lexer;
 use crate::printer::{SExpr, ToSExpr, print_node};
@@ -52,6 +52,13 @@ impl Job {
         job.room = vec![0; room];
         job.page = vec![0; room];
         Ok(job)
+    }
+
+    /// A line for each width: how many trees are not printed there.
+    fn left_out(&self) {
+        for print in &self.prints {
+            println!("left_out_{} {}", print.width, print.left_out);
+        }
     }
 }
 
@@ -101,18 +108,18 @@ pub fn print_by_crate(trees: &[SExpr], width: u32, out: &mut Vec<u8>) {
 }
 
 /// The library's own function, as a host in C calls it.
-fn lex_kit(job: &mut Job) -> usize {
-    let (source, mut at, mut words) = (job.text.as_bytes(), 0, [0; 5]);
+fn lex(job: &mut Job) -> usize {
+    let (source, mut at, mut words) = (job.text.as_bytes(), 0, [0; 8]);
     loop {
         // SAFETY: the pointer and the length are a slice's, and the words are this function's own.
         unsafe { ffi::tulbazhik_next_token(source.as_ptr(), source.len(), at, &mut words) };
-        let [kind, start, len, _, _] = words;
+        let [kind, start, len, ..] = words;
         match kind {
-            1..=5 => at = (start + len) as usize,
+            kind::LPAREN..=kind::INT => at = (start + len) as usize,
             _ => break,
         }
     }
-    assert_eq!(words[0], 0, "the input lexes");
+    assert_eq!(words[0], kind::END, "the input lexes");
     job.text.len()
 }
 
@@ -133,32 +140,32 @@ fn lex_crate(job: &mut Job) -> usize {
 }
 
 fn feed(job: &mut Job, size: usize) -> usize {
-    let (mut state, mut words) = ([0; 8], [0; 6]);
+    let (mut state, mut words) = ([0; 8], [0; 8]);
     for piece in job.text.as_bytes().chunks(size) {
         let mut rest = piece;
         while !rest.is_empty() {
             // SAFETY: the pointer and the length are a slice's, and the state and the words are this function's own.
             unsafe { ffi::tulbazhik_feed(&mut state, rest.as_ptr(), rest.len(), &mut words) };
-            let [kind, _, _, _, _, used] = words;
-            assert!(kind != 6, "the input lexes");
+            let [kind, _, _, _, _, used, ..] = words;
+            assert!(kind != kind::REFUSED, "the input lexes");
             rest = &rest[used as usize..];
         }
     }
     loop {
         // SAFETY: as above.
         unsafe { ffi::tulbazhik_close(&mut state, &mut words) };
-        if words[0] == 0 {
+        if words[0] == kind::END {
             return job.text.len();
         }
     }
 }
 
-fn read_kit(job: &mut Job) -> usize {
+fn read(job: &mut Job) -> usize {
     black_box(tulbazhik::read_into(job.text.as_bytes(), &mut job.room).expect("the room is enough"));
     job.text.len()
 }
 
-fn print_kit(job: &mut Job, nth: usize) -> usize {
+fn print(job: &mut Job, nth: usize) -> usize {
     let print = job.prints.iter().find(|print| print.width == WIDTHS[nth]).expect("it was asked for");
     tulbazhik::print_into(&print.table, print.width, &mut job.room).expect("the room is enough")
 }
@@ -184,17 +191,17 @@ macro_rules! measured {
 }
 
 measured! {
-    bench_lex_kit = lex_kit;
-    bench_lex_wrapper_kit = lex_wrapper;
+    bench_lex_ours = lex;
+    bench_lex_wrapper_ours = lex_wrapper;
     bench_lex_crate = lex_crate;
-    bench_feed_16_kit = |job| feed(job, 16);
-    bench_feed_512_kit = |job| feed(job, 512);
-    bench_feed_65536_kit = |job| feed(job, 65536);
-    bench_read_kit = read_kit;
-    bench_print_0_kit = |job| print_kit(job, 0);
-    bench_print_40_kit = |job| print_kit(job, 1);
-    bench_print_100_kit = |job| print_kit(job, 2);
-    bench_print_4294967295_kit = |job| print_kit(job, 3);
+    bench_feed_16_ours = |job| feed(job, 16);
+    bench_feed_512_ours = |job| feed(job, 512);
+    bench_feed_65536_ours = |job| feed(job, 65536);
+    bench_read_ours = read;
+    bench_print_0_ours = |job| print(job, 0);
+    bench_print_40_ours = |job| print(job, 1);
+    bench_print_100_ours = |job| print(job, 2);
+    bench_print_4294967295_ours = |job| print(job, 3);
     bench_print_0_crate = |job| print_crate(job, 0);
     bench_print_40_crate = |job| print_crate(job, 1);
     bench_print_100_crate = |job| print_crate(job, 2);
@@ -207,9 +214,7 @@ pub fn all(file: &str) -> Result<(), String> {
     for (name, function) in ALL {
         println!("{name} {}", function(&mut job));
     }
-    for print in &job.prints {
-        println!("left_out_{} {}", print.width, print.left_out);
-    }
+    job.left_out();
     Ok(())
 }
 
@@ -240,5 +245,6 @@ pub fn one(name: &str, file: &str, call: bool) -> Result<(), String> {
     let mut job = Job::new(file, Some(name))?;
     let bytes = if call { function(&mut job) } else { 0 };
     println!("{name} {bytes}");
+    job.left_out();
     Ok(())
 }

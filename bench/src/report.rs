@@ -1,4 +1,4 @@
-//! The table: what was counted and timed, each of the kit's figures beside the crate's, and the growth with the input.
+//! The table: what was counted and timed, each of the library's figures beside the crate's, and the growth with the input.
 
 use std::collections::HashMap;
 
@@ -7,29 +7,29 @@ type Lines = HashMap<String, Vec<f64>>;
 
 struct Row {
     title: &'static str,
-    kit: &'static str,
+    ours: &'static str,
     /// Whose figure stands beside it, and what of the crate's that is where it is not the same thing.
     beside: &'static str,
     note: &'static str,
 }
 
-const fn row(title: &'static str, kit: &'static str, beside: &'static str, note: &'static str) -> Row {
-    Row { title, kit, beside, note }
+const fn row(title: &'static str, ours: &'static str, beside: &'static str, note: &'static str) -> Row {
+    Row { title, ours, beside, note }
 }
 
 const ROWS: &[Row] = &[
-    row("lexing", "bench_lex_kit", "bench_lex_crate", ""),
-    row("lexing, by the wrapper", "bench_lex_wrapper_kit", "bench_lex_crate", ""),
-    row("feeding, pieces of 16", "bench_feed_16_kit", "bench_lex_crate", "the crate's lexing"),
-    row("feeding, pieces of 512", "bench_feed_512_kit", "bench_lex_crate", "the crate's lexing"),
-    row("feeding, pieces of 65536", "bench_feed_65536_kit", "bench_lex_crate", "the crate's lexing"),
-    row("reading", "bench_read_kit", "bench_lex_crate", "the crate's lexing"),
-    row("printing, width 0", "bench_print_0_kit", "bench_print_0_crate", "per output byte"),
-    row("printing, width 40", "bench_print_40_kit", "bench_print_40_crate", "per output byte"),
-    row("printing, width 100", "bench_print_100_kit", "bench_print_100_crate", "per output byte"),
+    row("lexing", "bench_lex_ours", "bench_lex_crate", ""),
+    row("lexing, by the wrapper", "bench_lex_wrapper_ours", "bench_lex_crate", ""),
+    row("feeding, pieces of 16", "bench_feed_16_ours", "bench_lex_crate", "the crate's lexing"),
+    row("feeding, pieces of 512", "bench_feed_512_ours", "bench_lex_crate", "the crate's lexing"),
+    row("feeding, pieces of 65536", "bench_feed_65536_ours", "bench_lex_crate", "the crate's lexing"),
+    row("reading", "bench_read_ours", "bench_lex_crate", "the crate's lexing"),
+    row("printing, width 0", "bench_print_0_ours", "bench_print_0_crate", "per output byte"),
+    row("printing, width 40", "bench_print_40_ours", "bench_print_40_crate", "per output byte"),
+    row("printing, width 100", "bench_print_100_ours", "bench_print_100_crate", "per output byte"),
     row(
         "printing, width 4294967295",
-        "bench_print_4294967295_kit",
+        "bench_print_4294967295_ours",
         "bench_print_4294967295_crate",
         "per output byte",
     ),
@@ -41,7 +41,7 @@ pub fn table(folder: &str) -> Result<(), String> {
     let grown = lines(&format!("{folder}/grown.counts"))?;
     let times = lines(&format!("{folder}/whole.times")).unwrap_or_default();
     let program = lines(&format!("{folder}/program.counts")).unwrap_or_default();
-    let bytes = |lines: &Lines| lines.get("bench_lex_kit").map_or(0.0, |found| found[0]);
+    let bytes = |lines: &Lines| lines.get("bench_lex_ours").map_or(0.0, |found| found[0]);
     println!(
         "input {} bytes; growth from its first {} bytes to {} bytes of the same",
         bytes(&whole),
@@ -51,19 +51,19 @@ pub fn table(folder: &str) -> Result<(), String> {
     println!("instructions and nanoseconds per byte of the source, or of the output where it says so\n");
     println!(
         "{:<27} {:>7} {:>7} {:>6} {:>7} {:>8} {:>8}  {}",
-        "", "kit", "crate", "ratio", "growth", "kit ns", "crate ns", "beside"
+        "", "ours", "crate", "ratio", "growth", "ours ns", "crate ns", "beside"
     );
-    for Row { title, kit, beside, note } in ROWS {
-        let (ours, theirs) = (per_byte(&whole, kit)?, per_byte(&whole, beside)?);
-        let growth = (per_byte(&grown, kit)? / per_byte(&part, kit)? - 1.0) * 100.0;
+    for Row { title, ours, beside, note } in ROWS {
+        let (count, theirs) = (per_byte(&whole, ours)?, per_byte(&whole, beside)?);
+        let growth = (per_byte(&grown, ours)? / per_byte(&part, ours)? - 1.0) * 100.0;
         let time = |name: &str| {
             let (spent, count) = (times.get(name), whole.get(name));
             spent.zip(count).map_or("-".to_string(), |(spent, count)| format!("{:.2}", spent[0] / count[0]))
         };
         println!(
-            "{title:<27} {ours:>7.1} {theirs:>7.1} {:>6.2} {growth:>6.1}% {:>8} {:>8}  {note}",
-            ours / theirs,
-            time(kit),
+            "{title:<27} {count:>7.1} {theirs:>7.1} {:>6.2} {growth:>6.1}% {:>8} {:>8}  {note}",
+            count / theirs,
+            time(ours),
             time(beside)
         );
     }

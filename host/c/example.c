@@ -1,25 +1,33 @@
-/* Prints an ISLE source at width 100, with rooms that grow: cc -I ../include example.c ../../target/staticlib/libkit*.a */
+/* Prints an ISLE source at width 100, with rooms that grow: cc -I ../include example.c ../../target/staticlib/libtulbazhik_trees.a */
 #include <stdio.h>
 #include <stdlib.h>
 #include "tulbazhik.h"
 
+/* whether a call is still to be made, with a room of so many bytes as the place says */
+static int wants_room(const tulbazhik_answer *answer, uint64_t number) {
+    return answer->kind == TULBAZHIK_REFUSED && answer->number == number;
+}
+
 int format(const uint8_t *source, size_t length, FILE *out) {
-    uint64_t read[2] = {14, 2 * length + 1}, print[2] = {18, 2 * length + 1};
+    tulbazhik_answer read = {.kind = TULBAZHIK_REFUSED, .number = TULBAZHIK_TABLE_ROOM, .place = 2 * length + 1};
+    tulbazhik_answer print = {.kind = TULBAZHIK_REFUSED, .number = TULBAZHIK_PRINT_ROOM, .place = 2 * length + 1};
     uint8_t *table = NULL, *text = NULL;
-    while (read[0] == 14 && (table = realloc(table, read[1])) != NULL)
-        tulbazhik_read(source, length, table, read[1], read);
-    while (read[0] == 0 && print[0] == 18 && (text = realloc(text, print[1])) != NULL)
-        tulbazhik_print(table, read[1], 100, text, print[1], print);
-    if (read[0] == 0 && print[0] == 0)
-        fwrite(text, 1, print[1], out);
+    while (wants_room(&read, TULBAZHIK_TABLE_ROOM) && (table = realloc(table, read.place)) != NULL)
+        tulbazhik_read(source, length, table, read.place, &read);
+    if (read.kind != TULBAZHIK_DONE)
+        print = read;
+    while (wants_room(&print, TULBAZHIK_PRINT_ROOM) && (text = realloc(text, print.place)) != NULL)
+        tulbazhik_print(table, read.length, 100, text, print.place, &print);
+    if (print.kind == TULBAZHIK_DONE)
+        fwrite(text, 1, print.length, out);
     else
-        fprintf(out, "refusal %d at %zu\n", (int)(read[0] ? read[0] : print[0]), (size_t)(read[0] ? read[1] : print[1]));
+        fprintf(out, "refusal %d at %zu\n", (int)print.number, (size_t)print.place);
     free(table);
     free(text);
-    return read[0] != 0 || print[0] != 0;
+    return print.kind != TULBAZHIK_DONE;
 }
 
 int main(void) {
-    static uint8_t source[1 << 20];
+    static uint8_t source[TULBAZHIK_SOURCE_LIMIT + 1]; /* a longer one is refused, not cut */
     return format(source, fread(source, 1, sizeof source, stdin), stdout);
 }

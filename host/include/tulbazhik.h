@@ -1,53 +1,139 @@
-/* Tulbazhik's proved functions for C: lexing, feeding, reading and printing of ISLE rule files.
-   Link libkit.a (lexing), libkit_feed.a (feeding) and libkit_trees.a (reading, printing), as many of them as are used;
-   `rt staticlib NAME` writes each for x86-64.
+/* Tulbazhik's proved functions for C (C11 or C++11): lexing, feeding, reading and printing of ISLE rule files.
+   Link libtulbazhik_lex.a (next_token), libtulbazhik_feed.a (fresh, feed, close) and libtulbazhik_trees.a (read, print),
+   as many of them as are used; `rt staticlib tulbazhik_lex` and so on writes each for x86-64.
 
    Each function is proved to meet its contract on every input, to stay within what it is lent, and to return. No pointer is
    checked, so these are the caller's duties:
-   - no pointer is null, not even of a length 0; each one has as many bytes or words behind it as its length or array says;
-   - memory that a function writes overlaps nothing else that it is lent, and nobody else touches it during the call.
-   There is no other duty: any bytes, places, widths and states are answered. No function allocates, and calls with memory of
-   their own may run at once. */
+   - no pointer is null, not even with the length 0: pass the address of anything for an empty source, piece, table or room;
+   - each one has as many bytes behind it as its length says, or one whole answer or state;
+   - memory that a function writes overlaps nothing else that it is lent, and nobody else touches it during the call;
+   - TULBAZHIK_STACK bytes of stack are free.
+   There is no other duty: any bytes, places, widths and states are answered. No function allocates or keeps anything, and
+   calls with memory of their own may run at once. */
 #ifndef TULBAZHIK_H
 #define TULBAZHIK_H
 #include <stddef.h>
 #include <stdint.h>
+
+/* MAJOR grows when something changes that a caller relies on, MINOR when something is added. */
+#define TULBAZHIK_VERSION_MAJOR 1
+#define TULBAZHIK_VERSION_MINOR 0
+
+/* Bytes of a source; bytes of a table, enough for the table of any source; lists and bindings open at once. */
+#define TULBAZHIK_SOURCE_LIMIT 1048576
+#define TULBAZHIK_TABLE_LIMIT 16777216
+#define TULBAZHIK_DEPTH_LIMIT 64
+
+/* Bytes of stack that no call exceeds, at 64 levels of nesting. It is measured, not proved: host/check paints a stack,
+   makes the calls and looks how far down it was touched. */
+#define TULBAZHIK_STACK 65536
+
+#if defined(__GNUC__)
+#define TULBAZHIK_NONNULL __attribute__((nonnull))
+#else
+#define TULBAZHIK_NONNULL
+#endif
+
 #ifdef __cplusplus
 extern "C" {
 #endif
 
-/* words[0] of an answer. With a token: its start, its length, and for an integer the high and the low 64 bits of its
-   two's complement. With a refusal: its place, its number. All other words are 0. */
+/* What every function answers: eight words. What an answer's kind does not name below is 0. */
+typedef struct tulbazhik_answer {
+    uint64_t kind;
+    union {
+        uint64_t start; /* of a token, in the source */
+        uint64_t place; /* of a refusal; for 14 and 18 the bytes needed */
+    };
+    union {
+        uint64_t length; /* of a token; of what was written into a room */
+        uint64_t number; /* of a refusal */
+    };
+    uint64_t high, low; /* an integer in two's complement, its high and its low 64 bits */
+    uint64_t used;      /* bytes consumed of a piece */
+    uint64_t spare[2];  /* 0 */
+} tulbazhik_answer;
+
+/* The kinds of an answer, and the fields that each has. */
 enum {
-    TULBAZHIK_END = 0,
-    TULBAZHIK_LPAREN = 1,
-    TULBAZHIK_RPAREN = 2,
-    TULBAZHIK_AT = 3,
-    TULBAZHIK_SYMBOL = 4,
-    TULBAZHIK_INT = 5,
-    TULBAZHIK_REFUSED = 6,
-    TULBAZHIK_MORE = 7
+    TULBAZHIK_END = 0,     /* the source's end */
+    TULBAZHIK_LPAREN = 1,  /* start, length; from a feed also used, as with every token, refusal and MORE */
+    TULBAZHIK_RPAREN = 2,  /* start, length */
+    TULBAZHIK_AT = 3,      /* start, length */
+    TULBAZHIK_SYMBOL = 4,  /* start, length */
+    TULBAZHIK_INT = 5,     /* start, length (of the whole spelling), high, low */
+    TULBAZHIK_REFUSED = 6, /* place, number */
+    TULBAZHIK_MORE = 7,    /* the whole piece was consumed and no token is ready */
+    TULBAZHIK_DONE = 8     /* length: a table or a text of so many bytes was written */
 };
 
-/* The next token of a source from the place `at` on, the end, or a refusal. */
-void tulbazhik_next_token(const uint8_t *source, size_t length, size_t at, uint64_t words[5]);
+/* The numbers of refusals, and the place that each names. No refusal changes a byte of a room. */
+enum {
+    TULBAZHIK_TOO_LONG = 1,        /* source, table or feed too long; its limit */
+    TULBAZHIK_PAST_SOURCE = 2,     /* the start is past the source; the source's length */
+    TULBAZHIK_FORM_FEED = 3,       /* a form feed where a token should start; its byte */
+    TULBAZHIK_OPEN_COMMENT = 4,    /* a block comment open at the end; the outermost `(;` */
+    TULBAZHIK_NO_DIGITS = 5,       /* a literal without digits; the literal */
+    TULBAZHIK_FOREIGN_DIGIT = 6,   /* a digit foreign to the radix; the literal */
+    TULBAZHIK_TOO_LARGE = 7,       /* above 2^128-1; the literal */
+    TULBAZHIK_MINUS_LOWEST = 8,    /* `-` with 2^127; the literal */
+    TULBAZHIK_NO_LIST_OPEN = 9,    /* `)` with no list open; it */
+    TULBAZHIK_LIST_OPEN = 10,      /* a list open at the end; the innermost open `(` */
+    TULBAZHIK_NO_SYMBOL = 11,      /* `@` with no symbol before it; it */
+    TULBAZHIK_NO_TREE = 12,        /* `)` or the end after a binding's `@`; it, or the source's length */
+    TULBAZHIK_TOO_DEEP = 13,       /* the 65th list or binding open; `(` or name, or record */
+    TULBAZHIK_TABLE_ROOM = 14,     /* the table needs more room; the bytes needed */
+    TULBAZHIK_BAD_RECORD = 15,     /* a bad record or missing trees; the record, or the table's length */
+    TULBAZHIK_BAD_SYMBOL = 16,     /* a symbol or name that the lexer would not read as one; the record */
+    TULBAZHIK_LOWEST = 17,         /* the integer -2^127 at printing; the record */
+    TULBAZHIK_PRINT_ROOM = 18,     /* the print needs more room; the bytes needed */
+    TULBAZHIK_FED_AFTER_CLOSE = 19 /* fed after a close; the bytes consumed so far */
+};
 
-/* The state before the first byte; eight zeros are the same. A state is plain data: it may be copied and stored. */
-void tulbazhik_fresh(uint64_t state[8]);
+/* A table is records one after another: the nodes of each tree in preorder, all numbers little-endian.
 
-/* A piece of the source. words[5] is the bytes consumed: what is left of the piece is fed again. After a token there may be more
-   in the piece; MORE says that all of it was consumed. The state becomes the new state, after a refusal too. */
-void tulbazhik_feed(uint64_t state[8], const uint8_t *piece, size_t length, uint64_t words[6]);
+   bytes 0 to 3   the length of the whole record
+   bytes 4 and 5  the kind
+   from byte 6    the payload:
 
-/* The source's end: the token that was held, then the end; or a refusal. */
-void tulbazhik_close(uint64_t state[8], uint64_t words[6]);
+   kind     length  payload                     what follows
+   SYMBOL   6 + n   its n bytes, at least one
+   INTEGER  22      16 bytes, two's complement
+   BINDING  6 + n   the name's n bytes          its tree
+   LIST     10      4 bytes, the item count     the items, so many trees */
+enum {
+    TULBAZHIK_RECORD_SYMBOL = 1,
+    TULBAZHIK_RECORD_INTEGER = 2,
+    TULBAZHIK_RECORD_BINDING = 3,
+    TULBAZHIK_RECORD_LIST = 4
+};
 
-/* The trees of a source as a table in `table`. result[0] is 0 and result[1] the table's length; or a refusal's number and place.
-   With 14 the place is the bytes needed. A refusal leaves the room as it was, and so are the bytes after the table. */
-void tulbazhik_read(const uint8_t *source, size_t length, uint8_t *table, size_t room, uint64_t result[2]);
+/* What a feeder keeps between two calls: plain data, which may be copied and stored. Zeros are the fresh state,
+   and word[1] is the bytes consumed so far. */
+typedef struct tulbazhik_state {
+    uint64_t word[8];
+} tulbazhik_state;
 
-/* A table laid out at a width in `text`; the result as above. With 18 the place is the bytes needed. */
-void tulbazhik_print(const uint8_t *table, size_t length, uint32_t width, uint8_t *text, size_t room, uint64_t result[2]);
+/* The next token of a source from the place `at` on, END, or REFUSED. */
+void tulbazhik_next_token(const uint8_t *source, size_t length, size_t at, tulbazhik_answer *answer) TULBAZHIK_NONNULL;
+
+/* The state before the first byte. */
+void tulbazhik_fresh(tulbazhik_state *state) TULBAZHIK_NONNULL;
+
+/* A piece of the source: a token, MORE, or REFUSED. What is left of the piece after `used` bytes is fed again. After a token
+   there may be more in the piece; MORE says that all of it was consumed. The state becomes the new state, after a refusal too. */
+void tulbazhik_feed(tulbazhik_state *state, const uint8_t *piece, size_t length, tulbazhik_answer *answer) TULBAZHIK_NONNULL;
+
+/* The source's end: the token that was held, then END; or REFUSED. */
+void tulbazhik_close(tulbazhik_state *state, tulbazhik_answer *answer) TULBAZHIK_NONNULL;
+
+/* The trees of a source as a table in `table`: DONE, or REFUSED. Bytes of the room after the table stay as they were. */
+void tulbazhik_read(const uint8_t *source, size_t length, uint8_t *table, size_t room, tulbazhik_answer *answer)
+    TULBAZHIK_NONNULL;
+
+/* A table laid out at a width as a text in `text`: DONE, or REFUSED. Bytes of the room after the text stay as they were. */
+void tulbazhik_print(const uint8_t *table, size_t length, uint32_t width, uint8_t *text, size_t room,
+                     tulbazhik_answer *answer) TULBAZHIK_NONNULL;
 
 #ifdef __cplusplus
 }

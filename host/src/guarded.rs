@@ -1,5 +1,7 @@
 //! Memory with a guard on both sides: a function that writes past what it was lent is found out.
 
+use crate::ffi::Words;
+
 const GUARD: usize = 64;
 const FILL: u8 = 0xA5;
 
@@ -40,26 +42,26 @@ impl Bytes {
     }
 }
 
-/// N words to lend.
-pub struct Words<const N: usize> {
-    words: [u64; 32],
+/// Eight words to lend, as an answer or a state.
+pub struct Lent {
+    words: [u64; 24],
 }
 
-impl<const N: usize> Words<N> {
+impl Lent {
     /// They hold what no answer is, so that a word that is left unwritten is found out too.
-    pub fn unwritten() -> Words<N> {
-        Words { words: [u64::from_ne_bytes([FILL; 8]); 32] }
+    pub fn unwritten() -> Lent {
+        Lent { words: [u64::from_ne_bytes([FILL; 8]); 24] }
     }
 
-    pub fn lent(&mut self) -> *mut [u64; N] {
-        self.words[8..8 + N].as_mut_ptr().cast()
+    pub fn lent(&mut self) -> *mut Words {
+        self.words[8..16].as_mut_ptr().cast()
     }
 
     /// The words, once the guards were found untouched.
-    pub fn words(&self) -> [u64; N] {
+    pub fn words(&self) -> Words {
         let guard = u64::from_ne_bytes([FILL; 8]);
-        let whole = self.words[..8].iter().chain(&self.words[8 + N..]).all(|word| *word == guard);
+        let whole = self.words[..8].iter().chain(&self.words[16..]).all(|word| *word == guard);
         assert!(whole, "a function wrote past the words that it was lent");
-        self.words[8..8 + N].try_into().expect("N words")
+        self.words[8..16].try_into().expect("eight words")
     }
 }

@@ -50,10 +50,12 @@ mod tree;
 #[path = "../../oracle/src/worked.rs"]
 mod worked;
 
+mod doors;
 #[path = "../rust/src/ffi.rs"]
+#[allow(dead_code)]
 mod ffi;
 mod guarded;
-mod kit;
+mod stack;
 
 use std::process::ExitCode;
 
@@ -61,6 +63,16 @@ fn main() -> ExitCode {
     let each: u64 = std::env::args().nth(1).and_then(|word| word.parse().ok()).unwrap_or(3000);
     let cases = cases::Cases::new(1, &[], false).expect("no families are chosen");
     let (mut passed, mut failed) = (0, 0);
+    match stack::most() {
+        Some(most) => {
+            println!("host: a call takes up to {most} bytes of stack");
+            passed += 1;
+        }
+        None => {
+            println!("host: a call takes more stack than the header says");
+            failed += 1;
+        }
+    }
     for &op in frame::OPS {
         for number in 0..each {
             let case = cases.frame(op, number);
@@ -69,7 +81,7 @@ fn main() -> ExitCode {
             for case in std::iter::once(case).chain(wide) {
                 let mut expected = Vec::new();
                 answer::answer(&crate_side::CrateSide, &case, &mut expected);
-                for (way, got) in kit::answers(&case) {
+                for (way, got) in doors::answers(&case) {
                     if got == expected {
                         passed += 1;
                         continue;

@@ -2,12 +2,17 @@
 
 use std::fmt;
 
+use crate::ffi::Words;
+use crate::numbers;
+
 /// A refusal. No refusal changes a lent byte.
 ///
 /// ```
+/// use tulbazhik::numbers;
+///
 /// let source = b"(rule\n  (f 12ab))";
 /// let error = tulbazhik::tokens(source).find_map(Result::err).expect("12ab has a foreign digit");
-/// assert_eq!((error.number, error.place), (6, 11));
+/// assert_eq!((error.number, error.place), (numbers::FOREIGN_DIGIT, 11));
 /// assert_eq!(error.to_string(), "refusal 6 at 11: a digit is foreign to the literal's radix");
 /// assert_eq!(
 ///     error.within(source).to_string(),
@@ -16,36 +21,22 @@ use std::fmt;
 /// ```
 #[derive(Clone, Copy, Debug, PartialEq, Eq)]
 pub struct Error {
+    /// One of [`numbers`].
     pub number: u8,
     /// A place in the source or the table; for 1 its limit, for 14 and 18 the bytes needed.
     pub place: usize,
 }
 
 impl Error {
+    /// The words of a refusal are the same in every function's answer.
+    #[inline]
+    pub(crate) fn of_words([_, place, number, ..]: Words) -> Error {
+        Error { number: number as u8, place: place as usize }
+    }
+
     /// What the number says.
     pub fn meaning(&self) -> &'static str {
-        match self.number {
-            1 => "longer than the limit",
-            2 => "the start is past the source",
-            3 => "a form feed stands where a token should start",
-            4 => "a block comment is still open at the end",
-            5 => "a literal has no digits",
-            6 => "a digit is foreign to the literal's radix",
-            7 => "a literal is above 2^128-1",
-            8 => "a minus stands before 2^127",
-            9 => "`)` with no list open",
-            10 => "a list is still open at the end",
-            11 => "the token before `@` is no symbol",
-            12 => "no tree follows a binding's `@`",
-            13 => "more than 64 lists and bindings are open",
-            14 => "the table needs more room, in bytes",
-            15 => "a bad record, or trees are missing",
-            16 => "a symbol that the lexer would not read as one",
-            17 => "the integer -2^127 has no spelling to print",
-            18 => "the print needs more room, in bytes",
-            19 => "fed after a close",
-            _ => "unknown",
-        }
+        numbers::meaning(self.number)
     }
 
     /// The same for a reader who has the source: line, column, and a caret under the place. For refusals of a source, 2 to 13.

@@ -4,7 +4,7 @@ use std::fmt;
 use std::io::{self, Read};
 
 use crate::error::Error;
-use crate::ffi;
+use crate::ffi::{self, Words};
 use crate::token::{Answer, Token};
 
 /// The state of a source that is fed in pieces: 64 bytes, plain data.
@@ -23,7 +23,7 @@ use crate::token::{Answer, Token};
 /// ```
 #[derive(Clone, Debug, PartialEq, Eq)]
 pub struct Feeder {
-    state: [u64; 8],
+    state: Words,
 }
 
 impl Default for Feeder {
@@ -35,30 +35,25 @@ impl Default for Feeder {
 impl Feeder {
     /// The state before the first byte.
     pub fn new() -> Feeder {
-        let mut state = [0; 8];
-        // SAFETY: `state` is eight words of this function's own.
-        unsafe { ffi::tulbazhik_fresh(&mut state) };
-        Feeder { state }
+        // SAFETY: the state is lent to this call alone.
+        Feeder { state: unsafe { ffi::written(|state| ffi::tulbazhik_fresh(state)) } }
     }
 
     /// The bytes consumed of `piece`, and the answer. What was not consumed is fed again.
     #[inline]
     pub fn feed(&mut self, piece: &[u8]) -> (usize, Answer) {
-        let mut out = [0; 6];
-        // SAFETY: the pointer and the length are a slice's; the state and `out` are arrays of the
-        // right sizes, both lent to nobody else.
-        unsafe { ffi::tulbazhik_feed(&mut self.state, piece.as_ptr(), piece.len(), &mut out) };
-        let [kind, place, size, high, low, used] = out;
-        (used as usize, Answer::of_words([kind, place, size, high, low]))
+        let state = &mut self.state;
+        // SAFETY: the pointer and the length are a slice's; the state and the answer are lent to nobody else.
+        let words =
+            unsafe { ffi::written(|answer| ffi::tulbazhik_feed(state, piece.as_ptr(), piece.len(), answer)) };
+        (words[5] as usize, Answer::of_words(words))
     }
 
     /// The source's end: the held token, the end, or a refusal.
     pub fn close(&mut self) -> Answer {
-        let mut out = [0; 6];
+        let state = &mut self.state;
         // SAFETY: as in `feed`.
-        unsafe { ffi::tulbazhik_close(&mut self.state, &mut out) };
-        let [kind, place, size, high, low, _] = out;
-        Answer::of_words([kind, place, size, high, low])
+        Answer::of_words(unsafe { ffi::written(|answer| ffi::tulbazhik_close(state, answer)) })
     }
 
     /// The bytes consumed so far.

@@ -1,17 +1,48 @@
-//! The library's functions as host/include/tulbazhik.h declares them. Nothing checks these lines against it.
+//! The library's functions as host/include/tulbazhik.h declares them. The compiler checks none of this; host/check compares the numbers.
+
+use std::mem::MaybeUninit;
+
+/// The words of an answer, and of a feeder's state.
+pub type Words = [u64; 8];
+
+/// Word 0 of an answer: all that the header has, used here or not.
+#[allow(dead_code)]
+pub mod kind {
+    pub const END: u64 = 0;
+    pub const LPAREN: u64 = 1;
+    pub const RPAREN: u64 = 2;
+    pub const AT: u64 = 3;
+    pub const SYMBOL: u64 = 4;
+    pub const INT: u64 = 5;
+    pub const REFUSED: u64 = 6;
+    pub const MORE: u64 = 7;
+    pub const DONE: u64 = 8;
+}
 
 unsafe extern "C" {
-    pub fn tulbazhik_next_token(src: *const u8, len: usize, at: usize, out: *mut [u64; 5]);
-    pub fn tulbazhik_fresh(state: *mut [u64; 8]);
-    pub fn tulbazhik_feed(state: *mut [u64; 8], piece: *const u8, len: usize, out: *mut [u64; 6]);
-    pub fn tulbazhik_close(state: *mut [u64; 8], out: *mut [u64; 6]);
-    pub fn tulbazhik_read(src: *const u8, len: usize, table: *mut u8, room: usize, out: *mut [u64; 2]);
+    pub fn tulbazhik_next_token(src: *const u8, len: usize, at: usize, answer: *mut Words);
+    pub fn tulbazhik_fresh(state: *mut Words);
+    pub fn tulbazhik_feed(state: *mut Words, piece: *const u8, len: usize, answer: *mut Words);
+    pub fn tulbazhik_close(state: *mut Words, answer: *mut Words);
+    pub fn tulbazhik_read(src: *const u8, len: usize, table: *mut u8, room: usize, answer: *mut Words);
     pub fn tulbazhik_print(
         table: *const u8,
         len: usize,
         width: u32,
         text: *mut u8,
         room: usize,
-        out: *mut [u64; 2],
+        answer: *mut Words,
     );
+}
+
+/// The words that a function writes.
+///
+/// # Safety
+/// `call` makes one call, which is lent its argument as the answer or the state: each function is proved to write all eight words.
+#[inline]
+pub unsafe fn written(call: impl FnOnce(*mut Words)) -> Words {
+    let mut words = MaybeUninit::uninit();
+    call(words.as_mut_ptr());
+    // SAFETY: by the duty above.
+    unsafe { words.assume_init() }
 }

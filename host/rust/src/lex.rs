@@ -18,10 +18,11 @@ use crate::token::{Answer, Token};
 /// ```
 #[inline]
 pub fn next_token(source: &[u8], at: usize) -> Result<Option<Token>, Error> {
-    let mut out = [0; 5];
-    // SAFETY: the pointer and the length are a slice's, which no pointer of `out` meets; `out` is five words.
-    unsafe { ffi::tulbazhik_next_token(source.as_ptr(), source.len(), at, &mut out) };
-    match Answer::of_words(out) {
+    // SAFETY: the pointer and the length are a slice's, and the answer meets no slice.
+    let words = unsafe {
+        ffi::written(|answer| ffi::tulbazhik_next_token(source.as_ptr(), source.len(), at, answer))
+    };
+    match Answer::of_words(words) {
         Answer::Token(token) => Ok(Some(token)),
         Answer::Refused(error) => Err(error),
         Answer::End | Answer::More => Ok(None),
@@ -31,12 +32,12 @@ pub fn next_token(source: &[u8], at: usize) -> Result<Option<Token>, Error> {
 /// The tokens of a source in order; a refusal is the last item.
 ///
 /// ```
-/// use tulbazhik::{Error, tokens};
+/// use tulbazhik::{Error, numbers, tokens};
 ///
 /// let source = b"(a 12ab)";
 /// let found: Vec<_> = tokens(source).collect();
 /// assert_eq!(&source[found[1]?.range()], b"a");
-/// assert_eq!(found[2], Err(Error { number: 6, place: 3 }));
+/// assert_eq!(found[2], Err(Error { number: numbers::FOREIGN_DIGIT, place: 3 }));
 /// assert_eq!(found.len(), 3);
 /// # Ok::<(), Error>(())
 /// ```

@@ -2,7 +2,7 @@
 //!
 //! A source at hand is lexed by [`tokens`] or [`next_token`]; one that comes in pieces by a [`Feeder`].
 //! [`read`] makes a table of a source's trees, and [`print`] lays a table out at a width.
-//! A refusal is an [`Error`]: a number, a place, and words with line, column and a caret.
+//! A refusal is an [`Error`]: a number (by name in [`numbers`]), a place, and words with line, column and a caret.
 //!
 //! ```
 //! use tulbazhik::{Kind, tokens};
@@ -18,6 +18,7 @@ mod error;
 mod feed;
 mod ffi;
 mod lex;
+pub mod numbers;
 mod tables;
 mod token;
 

@@ -1,15 +1,19 @@
 //! Reading a source into a table and printing a table, into rooms that are lent or that grow.
 
 use crate::error::Error;
-use crate::ffi;
+use crate::ffi::{self, Words, kind};
+use crate::numbers;
 
 /// Reads the trees of `source` into a table in `room` and gives the table's length. Where the room is too small, the refusal is
 /// 14, its place is the bytes needed, and the room stays as it was.
 pub fn read_into(source: &[u8], room: &mut [u8]) -> Result<usize, Error> {
-    let mut out = [0; 2];
-    // SAFETY: both pointers and lengths are slices', which do not meet, for one of them is `&mut`; `out` is two words.
-    unsafe { ffi::tulbazhik_read(source.as_ptr(), source.len(), room.as_mut_ptr(), room.len(), &mut out) };
-    answered(out)
+    // SAFETY: both pointers and lengths are slices', which do not meet, for one of them is `&mut`; the answer meets neither.
+    let words = unsafe {
+        ffi::written(|answer| {
+            ffi::tulbazhik_read(source.as_ptr(), source.len(), room.as_mut_ptr(), room.len(), answer)
+        })
+    };
+    length_of(words)
 }
 
 /// The table of a source's trees.
@@ -20,18 +24,19 @@ pub fn read_into(source: &[u8], room: &mut [u8]) -> Result<usize, Error> {
 /// # Ok::<(), tulbazhik::Error>(())
 /// ```
 pub fn read(source: &[u8]) -> Result<Vec<u8>, Error> {
-    grown(2 * source.len() + 64, 14, |room| read_into(source, room))
+    grown(2 * source.len() + 64, numbers::TABLE_ROOM, |room| read_into(source, room))
 }
 
 /// Prints `table` at a width into `room` and gives the text's length. Where the room is too small, the refusal is 18, its place
 /// is the bytes needed, and the room stays as it was.
 pub fn print_into(table: &[u8], width: u32, room: &mut [u8]) -> Result<usize, Error> {
-    let mut out = [0; 2];
     // SAFETY: as in `read_into`.
-    unsafe {
-        ffi::tulbazhik_print(table.as_ptr(), table.len(), width, room.as_mut_ptr(), room.len(), &mut out)
+    let words = unsafe {
+        ffi::written(|answer| {
+            ffi::tulbazhik_print(table.as_ptr(), table.len(), width, room.as_mut_ptr(), room.len(), answer)
+        })
     };
-    answered(out)
+    length_of(words)
 }
 
 /// The text of a table at a width.
@@ -43,13 +48,14 @@ pub fn print_into(table: &[u8], width: u32, room: &mut [u8]) -> Result<usize, Er
 /// # Ok::<(), tulbazhik::Error>(())
 /// ```
 pub fn print(table: &[u8], width: u32) -> Result<Vec<u8>, Error> {
-    grown(table.len() + 64, 18, |room| print_into(table, width, room))
+    grown(table.len() + 64, numbers::PRINT_ROOM, |room| print_into(table, width, room))
 }
 
-fn answered(out: [u64; 2]) -> Result<usize, Error> {
-    match out {
-        [0, len] => Ok(len as usize),
-        [number, place] => Err(Error { number: number as u8, place: place as usize }),
+/// The length of what was written, or the refusal.
+fn length_of(words: Words) -> Result<usize, Error> {
+    match words {
+        [kind::DONE, _, length, ..] => Ok(length as usize),
+        _ => Err(Error::of_words(words)),
     }
 }
 

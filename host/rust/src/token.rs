@@ -3,6 +3,7 @@
 use std::ops::Range;
 
 use crate::error::Error;
+use crate::ffi::{Words, kind};
 
 /// What a token is; a literal carries its integer.
 #[derive(Clone, Copy, Debug, PartialEq, Eq)]
@@ -46,18 +47,19 @@ pub enum Answer {
 }
 
 impl Answer {
-    /// The words of an answer, as the header lists them.
-    pub(crate) fn of_words(words: [u64; 5]) -> Answer {
-        let [kind, place, size, high, low] = words;
+    /// What the words of a lexer's or a feeder's answer say.
+    #[inline]
+    pub(crate) fn of_words(words: Words) -> Answer {
+        let [word, place, size, high, low, ..] = words;
         let token = |kind| Answer::Token(Token { kind, start: place as usize, len: size as usize });
-        match kind {
-            0 => Answer::End,
-            1 => token(Kind::LParen),
-            2 => token(Kind::RParen),
-            3 => token(Kind::At),
-            4 => token(Kind::Symbol),
-            5 => token(Kind::Int(((high as u128) << 64 | low as u128) as i128)),
-            6 => Answer::Refused(Error { number: size as u8, place: place as usize }),
+        match word {
+            kind::END => Answer::End,
+            kind::LPAREN => token(Kind::LParen),
+            kind::RPAREN => token(Kind::RParen),
+            kind::AT => token(Kind::At),
+            kind::SYMBOL => token(Kind::Symbol),
+            kind::INT => token(Kind::Int(((high as u128) << 64 | low as u128) as i128)),
+            kind::REFUSED => Answer::Refused(Error::of_words(words)),
             _ => Answer::More,
         }
     }
