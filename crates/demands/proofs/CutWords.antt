@@ -1,37 +1,39 @@
 -- THEOREM cut-anywhere-words: a host of the door for C gets, as words, the tokens, places and refusal of the uncut source. Assumes nothing.
-use Prim.Native.Nat.{ℕ, zero, suc, _+_, _*_, _≤_, _<_}
+use Prim.Native.Nat.{ℕ, zero, suc}
 use mathlib.Core.Path.{_≡_, refl, ap, _∙_}
+use mathlib.Core.Bool.{cond}
 use mathlib.Core.List.{List, [], _∷_}
-use lib.ListN.{length, drop, getD}
-use Rattle.refusals.specs.Numbers.{sourceLimit}
+use lib.Dec.{eqb}
+use lib.ListN.{drop, getD}
 use Rattle.refusals.specs.Result.{Result, ok, refused}
 use Rattle.lexer.specs.Tokens.{Kind, lparen, rparen, at-sign, symbol, int}
-use Rattle.lexer.specs.Streams.{Stream, ends, tokensOf}
+use Rattle.lexer.specs.Streams.{Stream, ends}
 use Rattle.feeder.specs.declared.State.{State}
 use Rattle.feeder.specs.Feeding.{Reply, more, finish, ready, Fed, freshState, feedOf, closeOf}
-use Rattle.words.specs.Words.{kindWords, replyWords, fedWords}
+use Rattle.words.specs.Words.{kindWord, moreKind, tokenWords, replyWords, fedWords}
 use Rattle.words.proofs.Injective.{used-back}
 use Rattle.tulbazhik_feed.specs.States.{packOf}
 use Rattle.tulbazhik_feed.proofs.Packed.{PhaseFits, back}
-use Rattle.demands.specs.Driver.{after, driveBy, drive, joined}
-use Rattle.demands.specs.DriverWords.{told, afterWords, lost, driveWords, streamWords}
+use Rattle.demands.specs.Driver.{after, driveBy, drive}
+use Rattle.demands.specs.DriverWords.{told, lastKind, afterWords, lost, driveWords, streamWords, CutAnywhereWords}
 use Rattle.demands.proofs.CutAnywhere.{cut-anywhere}
 use Rattle.demands.proofs.PackedStates.{feed-fits, close-fits}
 
 -- ---- the host reads from the words what the answer was
 
-kind-read : (k : Kind) (s n u : ℕ) (x y : List (List ℕ)) → afterWords (kindWords k s n u) x y ≡ told (kindWords k s n 0) ∷ y
-kind-read lparen s n u x y = refl
-kind-read rparen s n u x y = refl
-kind-read at-sign s n u x y = refl
-kind-read symbol s n u x y = refl
-kind-read (int z) s n u x y = refl
+-- a token's word 0 is no other answer's
+kind-read : (k : Kind) (x y z : List (List ℕ)) → cond (eqb (kindWord k) moreKind) x (cond (lastKind (kindWord k)) y z) ≡ z
+kind-read lparen x y z = refl
+kind-read rparen x y z = refl
+kind-read at-sign x y z = refl
+kind-read symbol x y z = refl
+kind-read (int i) x y z = refl
 
 read : (r : Result Reply) (u : ℕ) (x y : List (List ℕ)) (a b : Stream) → x ≡ streamWords a → y ≡ streamWords b → afterWords (replyWords r u) x y ≡ streamWords (after r a b)
 unfolding replyWords streamWords
 read (ok more) u x y a b e f = e
 read (ok finish) u x y a b e f = refl
-read (ok (ready t)) u x y a b e f = kind-read (t .kind) (t .start) (t .size) u x y ∙ ap (λ (l : List (List ℕ)). told (kindWords (t .kind) (t .start) (t .size) 0) ∷ l) f
+read (ok (ready t)) u x y a b e f = kind-read (t .kind) _ _ _ ∙ ap (λ (l : List (List ℕ)). told (tokenWords t 0) ∷ l) f
 read (refused n c) u x y a b e f = refl
 
 -- ---- and the words that it keeps mean the state
@@ -56,6 +58,5 @@ words-driven (suc n) s [] h = rw (back s h) (closed-on n (closeOf s) (words-driv
 words-driven (suc n) s (q ∷ ps) h =
     rw (back s h) (fed-on n q ps (feedOf s q) (λ rs. words-driven n (feedOf s q .state) rs (feed-fits s q h)))
 
-pub cut-anywhere-words : (s : List ℕ) (ps : List (List ℕ)) (n : ℕ) → joined ps ≡ s → length s ≤ sourceLimit → 2 * length s + length ps + 1 < n
-    → driveWords n (packOf freshState) ps ≡ streamWords (tokensOf s)
+pub cut-anywhere-words : CutAnywhereWords
 cut-anywhere-words s ps n e l c = words-driven n freshState ps tt ∙ ap streamWords (cut-anywhere s ps n e l c)

@@ -25,8 +25,8 @@ use Rattle.feeder.specs.declared.Phase.the-variants.{Live, Closed, Refused}
 use Rattle.feeder.specs.declared.State.{State}
 use Rattle.feeder.specs.Machine.{closing, Turn, Go, Stay, Take, endedBy, begun, inBlank, inBlock, inDigits, turn, step}
 use Rattle.feeder.specs.Feeding.{stepped, feedFrom, feedIn, feedOf, shut, closeIn, closeOf}
-use Rattle.tulbazhik_feed.specs.States.{packOf, unpackOf}
 use Rattle.tulbazhik_feed.proofs.Packed.{ModeFits, PhaseFits, back}
+use Rattle.demands.specs.DriverWords.{PackedStates}
 use Rattle.demands.specs.Rules.{Reached, fresh, feeds, closes}
 
 -- ---- a radix and a refusal's number stay bytes
@@ -165,5 +165,5 @@ reached-fits n s fresh = tt
 reached-fits n s (feeds n' s' q r) = feed-fits s' q (reached-fits n' s' r)
 reached-fits n s (closes n' s' r) = close-fits s' (reached-fits n' s' r)
 
-pub packed-states : (n : ℕ) (s : State) → Reached n s → unpackOf (packOf s) ≡ s
+pub packed-states : PackedStates
 packed-states n s r = back s (reached-fits n s r)

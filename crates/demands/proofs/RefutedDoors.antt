@@ -30,10 +30,9 @@ use Rattle.reader.specs.Grammar.{readItems, readTree, fileOf}
 use Rattle.reader.specs.Reading.{reading, readInto}
 use Rattle.printer.specs.Layout.{lay, pageFrom}
 use Rattle.printer.specs.Printing.{printing, printedInto}
-use Rattle.words.specs.Words.{eight, endKind, rparenKind, symbolKind, intKind, refusedKind, moreKind, doneKind, tokenWords, refusedWords, doneWords, answerWords, replyWords, fedWords}
+use Rattle.words.specs.Words.{eight, endKind, rparenKind, symbolKind, intKind, refusedKind, moreKind, doneKind, tokenWords, refusedWords, doneWords, answerWords, replyWords, fedWords, lengthWords}
 use Rattle.tulbazhik_feed.specs.States.{packOf, unpackOf, stateWords}
 use Rattle.tulbazhik_feed.proofs.Packed.{back}
-use Rattle.tulbazhik_trees.specs.Words.{readWords, printWords}
 
 abbrev Not : Type 0 → Type 0
 Not P = P → ⊥
@@ -47,7 +46,7 @@ word i v w e = ap (λ (l : List ℕ). getD l i 0) e
 
 -- ---- words
 
--- of_token: an integer's limbs swapped; a negative one's high limb as a magnitude; the bytes consumed left out
+-- put_token: an integer's limbs swapped; a negative one's high limb as a magnitude; the bytes consumed left out
 token-limbs : Not (eight intKind 0 1 7 0 0 ≡ tokenWords (tokenOf (code.Int (wide (pos 0) 7) 1) 0) 0)
 unfolding valueOf
 token-limbs e = let z : _≡_ {A = ℕ} 7 0 = word 3 _ _ e in omega arith
@@ -59,21 +58,21 @@ token-magnitude e = let z : _≡_ {A = ℕ} 1 (2 ^ 64 - 1) = word 3 _ _ e in ome
 token-used : Not (eight rparenKind 4 1 0 0 0 ≡ tokenWords (tokenOf code.RParen 4) 1)
 token-used e = let z : _≡_ {A = ℕ} 0 1 = word 5 _ _ e in omega arith
 
--- of_refusal: number and place swapped; told as done
+-- put_refusal: number and place swapped; told as done
 refusal-swapped : Not (eight refusedKind 3 8 0 0 0 ≡ refusedWords 3 8 0)
 refusal-swapped e = let z : _≡_ {A = ℕ} 3 8 = word 1 _ _ e in omega arith
 
 refusal-done : Not (eight doneKind 8 3 0 0 0 ≡ refusedWords 3 8 0)
 refusal-done e = let z : _≡_ {A = ℕ} 8 6 = word 0 _ _ e in omega arith
 
--- of_length: the length as a place; as bytes consumed
+-- put_length: the length as a place; as bytes consumed
 length-place : Not (eight doneKind 7 0 0 0 0 ≡ doneWords 7)
 length-place e = let z : _≡_ {A = ℕ} 7 0 = word 1 _ _ e in omega arith
 
 length-used : Not (eight doneKind 0 7 0 0 7 ≡ doneWords 7)
 length-used e = let z : _≡_ {A = ℕ} 7 0 = word 5 _ _ e in omega arith
 
--- of_lexed: a refusal's number and place swapped; the end as "more"
+-- put_lexed: a refusal's number and place swapped; the end as "more"
 lexed-swapped : Not (eight refusedKind 3 8 0 0 0 ≡ answerWords (answerOf (lexed.Refused (record { number = 3; place = 8 }))))
 unfolding answerWords
 lexed-swapped e = let z : _≡_ {A = ℕ} 3 8 = word 1 _ _ e in omega arith
@@ -82,7 +81,7 @@ lexed-end : Not (eight moreKind 0 0 0 0 0 ≡ answerWords (answerOf lexed.End))
 unfolding answerWords
 lexed-end e = let z : _≡_ {A = ℕ} 7 0 = word 0 _ _ e in omega arith
 
--- of_out: "more" as the end; the bytes consumed as a place; 0 of them
+-- put_out: "more" as the end; the bytes consumed as a place; 0 of them
 abbrev moreOut : Out
 moreOut = record { answer = answer.More; used = 2 }
 
@@ -203,12 +202,12 @@ close-drops e = let z : _≡_ {A = ℕ} 0 4 = word 0 _ _ (e ∙ ap (λ (s : Stat
 -- ---- tulbazhik_trees
 
 -- tulbazhik_read: the length as a place; a refusal's number and place swapped; a room changed by a refusal
-read-place : Not (eight doneKind 7 0 0 0 0 ≡ readWords (reading (97 ∷ []) 7))
-unfolding reading fileOf readItems readTree records record-of le nextToken lexIn skip symbolEnd classOf
+read-place : Not (eight doneKind 7 0 0 0 0 ≡ lengthWords (reading (97 ∷ []) 7))
+unfolding lengthWords reading fileOf readItems readTree records record-of le nextToken lexIn skip symbolEnd classOf
 read-place e = let z : _≡_ {A = ℕ} 7 0 = word 1 _ _ e in omega arith
 
-read-swapped : Not (eight refusedKind 9 0 0 0 0 ≡ readWords (reading (41 ∷ []) 7))
-unfolding reading fileOf readItems readTree nextToken lexIn skip classOf
+read-swapped : Not (eight refusedKind 9 0 0 0 0 ≡ lengthWords (reading (41 ∷ []) 7))
+unfolding lengthWords reading fileOf readItems readTree nextToken lexIn skip classOf
 read-swapped e = let z : _≡_ {A = ℕ} 9 0 = word 1 _ _ e in omega arith
 
 read-changed : Not (0 ∷ [] ≡ readInto (41 ∷ []) (1 ∷ []))
@@ -220,12 +219,12 @@ abbrev a : List ℕ
 a = 7 ∷ 0 ∷ 0 ∷ 0 ∷ 1 ∷ 0 ∷ 97 ∷ []
 
 -- tulbazhik_print: 0 bytes; the bytes needed given as a length; a text changed where the room is too short
-print-none : Not (eight doneKind 0 0 0 0 0 ≡ printWords (printing a 0 2))
-unfolding printing tableOf treesAt treeAt recordAt stepAt number isSymbol runsOn classOf lay pageFrom
+print-none : Not (eight doneKind 0 0 0 0 0 ≡ lengthWords (printing a 0 2))
+unfolding lengthWords printing tableOf treesAt treeAt recordAt stepAt number isSymbol runsOn classOf lay pageFrom
 print-none e = let z : _≡_ {A = ℕ} 0 2 = word 2 _ _ e in omega arith
 
-print-needed : Not (eight doneKind 0 2 0 0 0 ≡ printWords (printing a 0 1))
-unfolding printing tableOf treesAt treeAt recordAt stepAt number isSymbol runsOn classOf lay pageFrom
+print-needed : Not (eight doneKind 0 2 0 0 0 ≡ lengthWords (printing a 0 1))
+unfolding lengthWords printing tableOf treesAt treeAt recordAt stepAt number isSymbol runsOn classOf lay pageFrom
 print-needed e = let z : _≡_ {A = ℕ} 8 6 = word 0 _ _ e in omega arith
 
 print-changed : Not (97 ∷ [] ≡ printedInto a 0 (0 ∷ []))

@@ -1,14 +1,19 @@
 -- The host that feeds a source in pieces through the door for C: it keeps the state's words, and reads the answer's words.
-use Prim.Native.Nat.{ℕ, zero, suc}
+use Prim.Native.Nat.{ℕ, zero, suc, _+_, _*_, _≤_, _<_}
+use mathlib.Core.Path.{_≡_}
 use mathlib.Core.Bool.{Bool, cond, _||_}
 use mathlib.Core.List.{List, [], _∷_}
 use lib.Dec.{eqb}
-use lib.ListN.{drop, getD, take}
+use lib.ListN.{drop, getD, length, take}
+use Rattle.refusals.specs.Numbers.{sourceLimit}
 use Rattle.refusals.specs.Result.{ok, refused}
-use Rattle.lexer.specs.Streams.{Stream, ends, then}
-use Rattle.feeder.specs.Feeding.{feedOf, closeOf}
+use Rattle.lexer.specs.Streams.{Stream, ends, then, tokensOf}
+use Rattle.feeder.specs.declared.State.{State}
+use Rattle.feeder.specs.Feeding.{freshState, feedOf, closeOf}
 use Rattle.words.specs.Words.{endKind, refusedKind, moreKind, tokenWords, endWords, refusedWords, fedWords}
-use Rattle.tulbazhik_feed.specs.States.{unpackOf, stateWords}
+use Rattle.tulbazhik_feed.specs.States.{packOf, unpackOf, stateWords}
+use Rattle.demands.specs.Driver.{joined}
+use Rattle.demands.specs.Rules.{Reached}
 
 -- the words lent as `state` and `answer`, after the calls that the door promises
 abbrev pub fedState : List ℕ → List ℕ → List ℕ
@@ -50,3 +55,13 @@ unfoldable pub streamWords : Stream → List (List ℕ)
 streamWords (ends (ok x)) = told (endWords 0) ∷ []
 streamWords (ends (refused n a)) = told (refusedWords n a 0) ∷ []
 streamWords (then t r) = told (tokenWords t 0) ∷ streamWords r
+
+-- every state that a feeder can be in comes back from its words, so that the words that a host keeps mean the state
+abbrev pub PackedStates : Type 0
+PackedStates = (n : ℕ) (s : State) → Reached n s → unpackOf (packOf s) ≡ s
+
+-- a source of at most 1,048,576 bytes, cut anywhere, yields as words the tokens, places and refusal of the uncut source
+abbrev pub CutAnywhereWords : Type 0
+CutAnywhereWords =
+    (s : List ℕ) (ps : List (List ℕ)) (n : ℕ) → joined ps ≡ s → length s ≤ sourceLimit → 2 * length s + length ps + 1 < n
+    → driveWords n (packOf freshState) ps ≡ streamWords (tokensOf s)

@@ -3,4 +3,5 @@ pub mod DriverWords
 pub mod Rules
 pub mod PrintThenFeed
 pub mod OneAnswer
+pub mod OneAnswerDoors
 pub mod Worked
