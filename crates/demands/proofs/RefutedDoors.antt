@@ -23,7 +23,8 @@ use Rattle.feeder.specs.declared.Answer.the-variants as answer
 use Rattle.feeder.specs.declared.Out.{Out}
 use Rattle.feeder.specs.Machine.{turn, step, closing}
 use Rattle.feeder.specs.Feeding.{live, closed, freshState, feedFrom, feedOf, closeOf, replyOf}
-use Rattle.table.specs.Trees.{runsOn, isSymbol, record-of, records}
+use Rattle.records.specs.Records.{record-of, headAt}
+use Rattle.table.specs.Trees.{runsOn, isSymbol, records}
 use Rattle.table.specs.Records.{recordAt}
 use Rattle.table.specs.Decoding.{stepAt, treeAt, treesAt, tableOf}
 use Rattle.reader.specs.Grammar.{readItems, readTree, fileOf}
@@ -220,13 +221,13 @@ a = 7 ∷ 0 ∷ 0 ∷ 0 ∷ 1 ∷ 0 ∷ 97 ∷ []
 
 -- tulbazhik_print: 0 bytes; the bytes needed given as a length; a text changed where the room is too short
 print-none : Not (eight doneKind 0 0 0 0 0 ≡ lengthWords (printing a 0 2))
-unfolding lengthWords printing tableOf treesAt treeAt recordAt stepAt number isSymbol runsOn classOf lay pageFrom
+unfolding lengthWords printing tableOf treesAt treeAt recordAt headAt stepAt number isSymbol runsOn classOf lay pageFrom
 print-none e = let z : _≡_ {A = ℕ} 0 2 = word 2 _ _ e in omega arith
 
 print-needed : Not (eight doneKind 0 2 0 0 0 ≡ lengthWords (printing a 0 1))
-unfolding lengthWords printing tableOf treesAt treeAt recordAt stepAt number isSymbol runsOn classOf lay pageFrom
+unfolding lengthWords printing tableOf treesAt treeAt recordAt headAt stepAt number isSymbol runsOn classOf lay pageFrom
 print-needed e = let z : _≡_ {A = ℕ} 8 6 = word 0 _ _ e in omega arith
 
 print-changed : Not (97 ∷ [] ≡ printedInto a 0 (0 ∷ []))
-unfolding printedInto tableOf treesAt treeAt recordAt stepAt number isSymbol runsOn classOf lay pageFrom
+unfolding printedInto tableOf treesAt treeAt recordAt headAt stepAt number isSymbol runsOn classOf lay pageFrom
 print-changed e = let z : _≡_ {A = ℕ} 97 0 = word 0 _ _ e in omega arith
