@@ -8,9 +8,8 @@ use lib.ListN.{length}
 use lib.IntN.{ℤ}
 use lib.Dec.{leb, eqb}
 use borrow.Author.Tests.{le-leb, leb-true, ne-eqb}
-use Rattle.wide.specs.Bytes.{integerAt, wideIn, numberAt, numberIn}
+use Rattle.wide.specs.Bytes.{Bytes, integerAt, wideIn, numberAt, numberIn}
 use Rattle.wide.specs.Text.{integerText}
-use Rattle.wide.proofs.Numbers.{Bytes}
 use Rattle.wide.proofs.Decimals.{integer-top}
 use Rattle.records.specs.Records.{headLen, lenAt, kindAt}
 use Rattle.records.proofs.Heads.{within-is, part-lt}

@@ -8,9 +8,9 @@ use lib.ListN.{length}
 use lib.Dec.{leb, ltb}
 use borrow.Author.Tests.{le-leb, lt-leb, leb-false, ltb-true, ltb-false}
 use Rattle.refusals.specs.Result.{Result, ok, refused}
-use Rattle.wide.specs.Bytes.{le, wideBytes}
+use Rattle.wide.specs.Bytes.{Bytes, le, wideBytes}
 use Rattle.wide.specs.Text.{integerText}
-use Rattle.wide.proofs.Numbers.{Bytes, le-length, wide-length}
+use Rattle.wide.proofs.Numbers.{le-length, wide-length}
 use Rattle.records.specs.Records.{headLen, record-of}
 use Rattle.records.proofs.Heads.{length-record}
 use Rattle.table.specs.Kinds.{symbolKind, integerKind, bindingKind, listKind}

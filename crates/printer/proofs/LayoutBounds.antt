@@ -9,8 +9,8 @@ use lib.ListN.{length, length-append, length-replicate}
 use lib.Dec.{lit≤}
 use Rattle.refusals.specs.Numbers.{depthLimit}
 use Rattle.refusals.specs.Result.{ok}
-use Rattle.wide.specs.Bytes.{le, wideBytes}
-use Rattle.wide.proofs.Numbers.{Bytes, wide-length}
+use Rattle.wide.specs.Bytes.{Bytes, le, wideBytes}
+use Rattle.wide.proofs.Numbers.{wide-length}
 use Rattle.wide.proofs.Decimals.{integer-top}
 use Rattle.records.specs.Records.{record-of}
 use Rattle.records.proofs.Heads.{length-record}

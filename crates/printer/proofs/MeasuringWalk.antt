@@ -12,9 +12,8 @@ use lib.Dec.{ltb, eqb}
 use borrow.Author.Tests.{lt-ltb, le-ltb, ne-eqb}
 use Rattle.refusals.specs.Numbers.{tableLimit, depthLimit, tooLong}
 use Rattle.refusals.specs.Result.{Result, ok, refused}
-use Rattle.wide.specs.Bytes.{wideIn}
+use Rattle.wide.specs.Bytes.{Bytes, wideIn}
 use Rattle.wide.specs.Text.{integerText}
-use Rattle.wide.proofs.Numbers.{Bytes}
 use Rattle.table.specs.Trees.{Tree, Trees, symbol, list, none, more, count, records}
 use Rattle.records.specs.Records.{headLen, payload}
 use Rattle.records.proofs.Heads.{part-lt, payload-size}

@@ -9,8 +9,8 @@ use lib.ListN.{length, take, drop, length-append}
 use borrow.Author.Tests.{le-leb, lt-ltb, le-ltb, ltb-false}
 use Rattle.lists.proofs.Choice.{pick}
 use Rattle.lists.proofs.Stands.{Stands, stands-left, stands-right, stands-take, stands-length, stands-join, stands-part, part-size}
-use Rattle.wide.specs.Bytes.{le, number, numberAt, numberIn}
-use Rattle.wide.proofs.Numbers.{Bytes, bytes-part, le-length, le-number-of, number-le, number-lt}
+use Rattle.wide.specs.Bytes.{Bytes, le, number, numberAt, numberIn}
+use Rattle.wide.proofs.Numbers.{bytes-part, le-length, le-number-of, number-le, number-lt}
 use Rattle.records.specs.Records.{Head, Cut, Is, headLen, headOf, record-of, lenAt, kindAt, payload, headBy, headAt}
 
 pub head-length : (kind len : ℕ) → length (headOf kind len) ≡ headLen

@@ -7,8 +7,8 @@ use native.Mathlib.Omega.{arith}
 use lib.ListN.{length, take, drop, length-append}
 use mir.Syntax.{w128}
 use mir.Val.{toZ}
-use Rattle.wide.specs.Bytes.{le, numberAt, wideBytes}
-use Rattle.wide.proofs.Numbers.{Bytes, bytes-part, le-length, wide-length, bytes-back}
+use Rattle.wide.specs.Bytes.{Bytes, le, numberAt, wideBytes}
+use Rattle.wide.proofs.Numbers.{bytes-part, le-length, wide-length, bytes-back}
 use Rattle.refusals.specs.Result.{Result, ok, refused}
 use Rattle.records.specs.Records.{headLen, record-of, lenAt, payload}
 use Rattle.records.proofs.Heads.{length-record, payload-size, record-stands, part-is, part-lt}

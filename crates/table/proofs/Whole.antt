@@ -10,7 +10,7 @@ use lib.Dec.{ltb}
 use borrow.Author.Tests.{lt-ltb, le-ltb, ltb-false}
 use Rattle.refusals.specs.Numbers.{tableLimit, depthLimit, tooLong}
 use Rattle.lists.proofs.Choice.{true-false}
-use Rattle.wide.proofs.Numbers.{Bytes}
+use Rattle.wide.specs.Bytes.{Bytes}
 use Rattle.refusals.specs.Result.{Result, ok, refused}
 use Rattle.table.specs.Trees.{Tree, Trees, none, more, Good, Goods, records, recordsOf}
 use Rattle.table.specs.Decoding.{Found, found, andThen, treeAt, treesAt, tableOf}

@@ -14,8 +14,7 @@ use lib.Seq.{drop-cons}
 use mir.Syntax.{w128}
 use mir.Val.{SFits, ofZ, toZ}
 use mir.ValLaws.{ofZ-fits, toZ-ofZ, ofZ-toZ}
-pub use Rattle.wide.specs.Bytes.{Bytes}
-use Rattle.wide.specs.Bytes.{le, number, numberAt, numberIn, wideBytes, integerAt, wideIn}
+use Rattle.wide.specs.Bytes.{Bytes, le, number, numberAt, numberIn, wideBytes, integerAt, wideIn}
 
 -- the same by the list's structure
 abbrev pub AllBytes : List ℕ → Type 0

@@ -9,7 +9,7 @@ use borrow.Fn.Kinds.{In}
 use borrow.Fn.PlainCycle.{Measures, is, falls, and}
 use lib.Dec.{eqb}
 use Rattle.refusals.specs.Numbers.{depthLimit}
-use Rattle.wide.proofs.Numbers.{Bytes}
+use Rattle.wide.specs.Bytes.{Bytes}
 use Rattle.records.specs.Records.{headLen}
 use Rattle.table.specs.declared.Step.the-variants as step
 use Rattle.table.proofs.Steps.{step-in}
