@@ -18,7 +18,7 @@ use Rattle.table.specs.Kinds.{symbolKind, integerKind, bindingKind, listKind}
 use Rattle.table.specs.Trees.{Tree, Trees, symbol, integer, binding, list, none, more, count, records, recordsOf, Good, Goods}
 use Rattle.table.specs.Decoding.{found, treeAt}
 use Rattle.table.proofs.Decoded.{Holds, tree-holds}
-use Rattle.printer.specs.Layout.{Wrapping, Wrap, SingleLine, bytes, column, breakColumn, named, wrapped, gap, inner, back, lay, items}
+use Rattle.printer.specs.Layout.{Wrapping, Wrap, SingleLine, bytes, column, breakColumn, named, nl, wrapped, gap, inner, back, lay, items}
 use Rattle.printer.specs.PrivateTrees.{Right, treeOf, nextOf}
 use Rattle.printer.specs.PrivateWriting.{line}
 use Rattle.printer.proofs.CheckedRecords.{right-is, found-end}
@@ -40,12 +40,15 @@ item-column-within false i c m h l = omega (arith, break-column-le (i + 1))
 pub named-size : (n : List ℕ) → length (named n) ≡ length n + 3
 named-size n = length-append n (32 ∷ 64 ∷ 32 ∷ [])
 
-gap-len : (first : Bool) (m : Wrapping) (i c : ℕ) → i + 1 ≤ 64 → length (bytes (gap first m i c)) ≤ 257
+pub nl-len-le : (i e : ℕ) → i ≤ depthLimit → e ≡ length (bytes (nl i)) → e ≤ 257
+nl-len-le i e h eq = omega (arith, eq, length-replicate {0} {A = ℕ} (4 * i) 32)
+
+gap-len : (first : Bool) (m : Wrapping) (i c : ℕ) → i + 1 ≤ depthLimit → length (bytes (gap first m i c)) ≤ 257
 gap-len true m i c h = lit≤ tt
 gap-len false SingleLine i c h = lit≤ tt
 gap-len false Wrap i c h = simp length-replicate (omega arith)
 
-back-len : (first : Bool) (m : Wrapping) (i c : ℕ) → i ≤ 64 → length (bytes (back first m i c)) ≤ 257
+back-len : (first : Bool) (m : Wrapping) (i c : ℕ) → i ≤ depthLimit → length (bytes (back first m i c)) ≤ 257
 back-len true m i c h = lit≤ tt
 back-len false SingleLine i c h = lit≤ tt
 back-len false Wrap i c h = simp length-replicate (omega arith)
@@ -58,7 +61,7 @@ inner-le false Wrap i = omega arith
 mutual
   unfolding lay records Good
 
-  pub lay-len : (x : Tree) (d : ℕ) (m : Wrapping) (w i c : ℕ) → Good x d → i + d ≤ 64 → length (bytes (lay x m w i c)) + 300 ≤ 128 * length (records x)
+  pub lay-len : (x : Tree) (d : ℕ) (m : Wrapping) (w i c : ℕ) → Good x d → i + d ≤ depthLimit → length (bytes (lay x m w i c)) + 300 ≤ 128 * length (records x)
   lay-len (symbol n) d m w i c g h = rw (length-record symbolKind n) (omega arith)
   lay-len (integer z) d m w i c g h = rw (length-record integerKind (wideBytes z), wide-length z) (omega (arith, integer-top z))
   lay-len (binding n x) d m w i c g h =
@@ -70,7 +73,7 @@ mutual
       rw (length-append (record-of listKind (le 4 (count xs))) (recordsOf xs), length-record listKind (le 4 (count xs)))
       (omega (arith, items-len xs (d - 1) true s w i (c + 1) (g .2) (omega (arith, g .0))))
 
-  items-len : (xs : Trees) (d : ℕ) (first : Bool) (m : Wrapping) (w i c : ℕ) → Goods xs d → i + 1 + d ≤ 64 → length (bytes (items xs first m w i c)) ≤ 128 * length (recordsOf xs) + 258
+  items-len : (xs : Trees) (d : ℕ) (first : Bool) (m : Wrapping) (w i c : ℕ) → Goods xs d → i + 1 + d ≤ depthLimit → length (bytes (items xs first m w i c)) ≤ 128 * length (recordsOf xs) + 258
   items-len none d first m w i c g h = rw (length-append (bytes (back first m i c)) (41 ∷ [])) (omega (arith, back-len first m i c (omega arith)))
   items-len (more x xs) d first m w i c g h =
       let c1 : ℕ = column (gap first m i c) in

@@ -6,7 +6,7 @@ use Prim.Native.Nat.{ℕ, _+_, _*_, _-_, _≤_, _<_}
 use native.Mathlib.Omega.{arith}
 use native.Mathlib.Nat.{add-mul}
 use lib.IntN.{ℤ}
-use lib.ListN.{length, length-append, length-replicate}
+use lib.ListN.{length, length-append}
 use Rattle.wide.specs.Text.{integerText}
 use Rattle.table.specs.Trees.{Tree, Trees, symbol, integer, binding, list, none, more, count}
 use Rattle.printer.specs.Layout.{Wrap, SingleLine, Put, bytes, column, named, nl, gap, inner, fits, lay, items}
@@ -149,12 +149,9 @@ pub laid-list : (xs : Trees) (w i c : ℕ) → fits w c (list xs) ≡ false → 
 unfolding lay
 laid-list xs w i c e = rw e (ap (λ (r : List ℕ). 40 ∷ r) (items-rest xs true w i (c + 1)))
 
--- each later item stands behind a line break of 4 i + 5 bytes, and the closing parenthesis behind one of 4 i + 1
+-- each later item stands behind a line break, and so does the closing parenthesis
 pub laid-size : (xs : Trees) (w i c : ℕ) → 0 < count xs → fits w c (list xs) ≡ false
-    → length (laid w i c (list xs)) ≡ sizes (broken w i (c + 1)) xs true + (count xs - 1) * (4 * i + 5) + (4 * i + 3)
+    → length (laid w i c (list xs)) ≡ sizes (broken w i (c + 1)) xs true + (count xs - 1) * length (bytes (nl (i + 1))) + (length (bytes (nl i)) + 2)
 laid-size xs w i c h e =
-    let r = rest-size (broken w i (c + 1)) xs refl h in
-    let a : length (bytes (nl (i + 1))) ≡ 4 * i + 5 = simp length-replicate (omega arith) in
-    let b : length (closing false i) ≡ 4 * i + 2 = simp (length-append, length-replicate) (omega arith) in
-    let k : (count xs - 1) * length (bytes (nl (i + 1))) ≡ (count xs - 1) * (4 * i + 5) = ap (λ (v : ℕ). (count xs - 1) * v) a in
-    ap length (laid-list xs w i c e) ∙ omega (arith, r)
+    let a = length-append (bytes (nl i)) (41 ∷ []) in
+    ap length (laid-list xs w i c e) ∙ omega (arith, rest-size (broken w i (c + 1)) xs refl h)

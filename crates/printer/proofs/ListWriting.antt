@@ -127,8 +127,8 @@ module _ {t : List ℕ} {at d n : ℕ} {m : Manner} {c : ℕ} {b₀ b : List ℕ
       join : (a b c d : List ℕ) → a ++ (b ++ (c ++ d)) ≡ ((a ++ b) ++ c) ++ d
       join a b c d = simp append-assoc
 
-  pub item : i < n → Item
-  item l =
+  pub filling-item : i < n → Item
+  filling-item l =
       let g = found-end t (d - 1) p (h .within) (item-right l) in
       let s : List ℕ = m .before (eqb i 0) in
       let x : List ℕ = m .item (eqb i 0) tree in
@@ -165,7 +165,7 @@ module _ {t : List ℕ} {at d n : ℕ} {m : Manner} {c : ℕ} {b₀ b : List ℕ
             puts-both (h .o ++ s) x e b₁ zs (len + k) il r₂
             (subst⁻¹ (λ (u : List ℕ). Puts (h .o ++ s) (len + k) e u) eb (puts-both (h .o) s e b ys len k r₁ (h .held e v) e₁ f₁)) e₂ (f₂ .1);
         right = h .right;
-        within = item l .high;
+        within = filling-item l .high;
         deeper = h .deeper;
         small = h .small;
         kept = l₂ ∙ l₁ ∙ h .kept;
@@ -210,7 +210,7 @@ module _ (d : ℕ) (y : Result (Found Tree)) (z : Result (Found Trees)) (w i c :
 module _ (w ind : ℕ) {t : List ℕ} {at d n c : ℕ} {b₀ b : List ℕ} {len p i : ℕ} (h : Filling t at d n (broken w ind (c + 1)) c b₀ b len p i) (l : i < n) (j k : ℕ)
     (ej : j ≡ inner (eqb i 0) Wrap ind) (ek : k ≡ column (gap (eqb i 0) Wrap ind (c + 1))) where
   pub wrapped-ready : k + length (laid w j k (treeOf (treeAt t true (d - 1) p))) ≤ 4294967296
-  wrapped-ready = rw (ej, ek) (omega (arith, item h l .room, h .small, h .some, item-column-le (eqb i 0) ind (c + 1)))
+  wrapped-ready = rw (ej, ek) (omega (arith, filling-item h l .room, h .small, h .some, item-column-le (eqb i 0) ind (c + 1)))
 
   pub wrapped-item : (q il : ℕ) (r r′ : List ℕ) → Written (laid w j k) (treeAt t true (d - 1) p) q il r r′
       → Written (broken w ind (c + 1) .item (eqb i 0)) (treeAt t true (d - 1) p) q il r r′

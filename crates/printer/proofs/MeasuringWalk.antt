@@ -24,14 +24,14 @@ use Rattle.table.specs.declared.Step.the-variants as step
 use Rattle.table.specs.Past.{pastSymbol}
 use Rattle.table.proofs.Steps.{step-tree, step-in, symbol-there, found-in, Gone, gone-begin, gone-item, gone-stop, gone-end}
 use Rattle.table.proofs.Steps.{Read, too-long, read-begin, read-tree, read-stop, read-end}
-use Rattle.printer.specs.Layout.{Wrap, SingleLine, bytes, column, named, gap, inner, fitsIn, lay, items, cost, costs, pageFrom, page}
+use Rattle.printer.specs.Layout.{Wrap, SingleLine, bytes, column, named, nl, gap, inner, fitsIn, lay, items, cost, costs, pageFrom, page}
 use Rattle.printer.specs.PrivateWriting.{line, laid}
 use Rattle.printer.specs.PrivateMeasuring.{Sized, Summed}
 use Rattle.printer.specs.declared.measure.Size.{Size}
 use Rattle.printer.specs.declared.measure.Measured.the-variants.{Bytes as Text, Refused}
 use Rattle.printer.proofs.FitEntries.{integer-value}
 use Rattle.printer.proofs.ListTexts.{sizes, flatly, broken, line-binding, line-size, laid-binding, laid-fits, laid-size}
-use Rattle.printer.proofs.LayoutBounds.{named-size, inner-le, found-len, line-len}
+use Rattle.printer.proofs.LayoutBounds.{named-size, nl-len-le, inner-le, found-len, line-len}
 
 -- ---- what stands at a place, where it was measured as a tree
 
@@ -147,14 +147,14 @@ pub record Walk (t : List ℕ) (at n d w i c p k cost′ empty len : ℕ) : Type
   pub gone : Gone (treeAt t true d) n at k p
   pub costing : (ys : Trees) → n + 1 + costs (gone .pre ys) ≡ cost′ + costs ys
   pub lined : (ys : Trees) → n + 1 + sizes flatly (gone .pre ys) true ≡ cost′ + empty + sizes flatly ys (eqb k 0)
-  pub summed : (ys : Trees) → 4 * i + 3 + sizes (broken w i (c + 1)) (gone .pre ys) true ≡ len + sizes (broken w i (c + 1)) ys (eqb k 0)
+  pub summed : (ys : Trees) → length (bytes (nl i)) + 2 + sizes (broken w i (c + 1)) (gone .pre ys) true ≡ len + sizes (broken w i (c + 1)) ys (eqb k 0)
   pub from : at ≤ p
   pub within : p ≤ length t
   pub lines : cost′ + empty ≤ n + 1 + 128 * (p - at)
-  pub lays : len ≤ 4 * i + 3 + 128 * (p - at)
+  pub lays : len ≤ 259 + 128 * (p - at)
 
-pub walk-begin : (t : List ℕ) (at n d w i c : ℕ) → at ≤ length t → Walk t at n d w i c at 0 (n + 1) 0 (4 * i + 3)
-walk-begin t at n d w i c h = record {
+pub walk-begin : (t : List ℕ) (at n d w i c k : ℕ) → at ≤ length t → i ≤ depthLimit → k ≡ length (bytes (nl i)) → Walk t at n d w i c at 0 (n + 1) 0 (k + 2)
+walk-begin t at n d w i c k h hi e = rw e record {
   gone = gone-begin (treeAt t true d) n at;
   costing = λ ys. refl;
   lined = λ ys. omega arith;
@@ -162,7 +162,7 @@ walk-begin t at n d w i c h = record {
   from = omega arith;
   within = h;
   lines = omega arith;
-  lays = omega arith;
+  lays = omega (arith, nl-len-le i (length (bytes (nl i))) hi refl);
 }
 
 module _ (t : List ℕ) (at n d w i c p k cost′ empty len : ℕ) (g : Walk t at n d w i c p k cost′ empty len) (lt : k < n) where
@@ -210,38 +210,38 @@ module _ (t : List ℕ) (at n d w i c p k cost′ empty len : ℕ) (g : Walk t a
       rw (gone-stop (treeAt t true d) n at k p (g .gone) (m .number) (m .place) lt (stop-of (treeAt t true d p) w j o m s l)) (h .0, l, h .1)
 
 module _ (t : List ℕ) (at n d w i c p k cost′ empty len : ℕ) (g : Walk t at n d w i c p k cost′ empty len) (le : n ≤ k) (some : 0 < n) where
-  abbrev all : Trees
-  all = g .gone .pre none
+  abbrev walked : Trees
+  walked = g .gone .pre none
 
-  is-all : itemsAt (treeAt t true d) n at ≡ ok (found all p)
+  is-all : itemsAt (treeAt t true d) n at ≡ ok (found walked p)
   is-all = gone-end (treeAt t true d) n at k p (g .gone) le
 
-  all-count : count all ≡ n
+  all-count : count walked ≡ n
   all-count = g .gone .counted none ∙ omega (arith, g .gone .few)
 
-  all-cost : cost′ ≡ cost (list all)
+  all-cost : cost′ ≡ cost (list walked)
   unfolding cost
   all-cost = omega (arith, all-count, g .costing none)
 
-  all-line : cost′ + empty ≡ length (line (list all))
+  all-line : cost′ + empty ≡ length (line (list walked))
   unfolding sizes
-  all-line = omega (arith, g .lined none, all-count, line-size all (omega (arith, all-count)))
+  all-line = omega (arith, g .lined none, all-count, line-size walked (omega (arith, all-count)))
 
   pub walk-line : (fit : Bool) (r : Size) → fit ≡ fitsIn w c cost′ → fit ≡ true
       → (r .number ≡ 0) × (r .place ≡ p) × (r .cost ≡ cost′) × (r .empty ≡ empty) × (r .len ≡ cost′ + empty)
       → Sized (andThen (itemsAt (treeAt t true d) n at) (λ xs q. ok (found (list xs) q))) w i c r
   walk-line fit r ef e h =
-      let f : fitsIn w c (cost (list all)) ≡ true = ap (fitsIn w c) (sym all-cost) ∙ sym ef ∙ e in
-      rw is-all (h .0, h .1, h .2 ∙ all-cost, omega (arith, h .2, h .3, all-line), h .4 ∙ all-line ∙ sym (ap length (laid-fits all w i c f)))
+      let f : fitsIn w c (cost (list walked)) ≡ true = ap (fitsIn w c) (sym all-cost) ∙ sym ef ∙ e in
+      rw is-all (h .0, h .1, h .2 ∙ all-cost, omega (arith, h .2, h .3, all-line), h .4 ∙ all-line ∙ sym (ap length (laid-fits walked w i c f)))
 
   pub walk-wide : (fit : Bool) (r : Size) → fit ≡ fitsIn w c cost′ → fit ≡ false
-      → (r .number ≡ 0) × (r .place ≡ p) × (r .cost ≡ cost′) × (r .empty ≡ empty) × (r .len ≡ len + (n - 1) * (4 * i + 5))
+      → (r .number ≡ 0) × (r .place ≡ p) × (r .cost ≡ cost′) × (r .empty ≡ empty) × (r .len ≡ len + (n - 1) * length (bytes (nl (i + 1))))
       → Sized (andThen (itemsAt (treeAt t true d) n at) (λ xs q. ok (found (list xs) q))) w i c r
   unfolding sizes
   walk-wide fit r ef e h =
-      let f : fitsIn w c (cost (list all)) ≡ false = ap (fitsIn w c) (sym all-cost) ∙ sym ef ∙ e in
-      let a = laid-size all w i c (omega (arith, all-count)) f in
-      let b : (count all - 1) * (4 * i + 5) ≡ (n - 1) * (4 * i + 5) = ap (λ (v : ℕ). (v - 1) * (4 * i + 5)) all-count in
+      let f : fitsIn w c (cost (list walked)) ≡ false = ap (fitsIn w c) (sym all-cost) ∙ sym ef ∙ e in
+      let a = laid-size walked w i c (omega (arith, all-count)) f in
+      let b = ap (λ (v : ℕ). (v - 1) * length (bytes (nl (i + 1)))) all-count in
       rw is-all (h .0, h .1, h .2 ∙ all-cost, omega (arith, h .2, h .3, all-line), h .4 ∙ omega (arith, a, b, g .summed none))
 
 -- an empty list is () at any width, whether it fits or not
@@ -254,17 +254,9 @@ none-sized t at n d w i c r e h = rw e (h .0, h .1, h .2, omega (arith, h .2, h 
     by true = refl
     by false = refl
 
--- k line breaks of a wrapped list, and b bytes besides
-breaks-lt : (k i : ℕ) → k ≤ 4294967295 → i ≤ depthLimit → k * (4 * i + 5) < 2 ^ 41
-breaks-lt k i h l =
-    let b : 4 * i + 5 ≤ 261 = omega arith in
-    omega (arith, mul-le-mul-left k b)
-
-pub breaks-fit : (k i : ℕ) → k ≤ 4294967295 → i ≤ depthLimit → k * (4 * i + 5) < 2 ^ 64
-breaks-fit k i h l = omega (arith, breaks-lt k i h l)
-
-pub laid-fit : (b k i : ℕ) → b ≤ 8589934592 → k ≤ 4294967295 → i ≤ depthLimit → b + k * (4 * i + 5) < 2 ^ 64
-laid-fit b k i hb h l = omega (arith, breaks-lt k i h l)
+-- k line breaks of e bytes each, and b bytes besides
+pub breaks-fit : (k e i : ℕ) → k ≤ 4294967295 → i ≤ depthLimit → e ≡ length (bytes (nl i)) → k * e ≤ 4294967295 * 257
+breaks-fit k e i h l eq = omega (arith, mul-le-mul-left k (nl-len-le i e l eq), h)
 
 -- ---- trees up to the table's end: n bytes are those of the trees before p
 

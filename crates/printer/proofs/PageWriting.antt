@@ -135,11 +135,11 @@ module _ {t : List ℕ} {w : ℕ} {b₀ b : List ℕ} {n p : ℕ} (h : Pages t w
   step : p < length t → Right (treeAt t true depthLimit p) × Paging t w (h .o ++ node t w p) (nextOf (treeAt t true depthLimit p))
   step l = paging-step t w (h .o) p (h .paging) l (h .right)
 
-  pub within : p ≤ length t
-  within = h .paging .read .within
+  pub pages-within : p ≤ length t
+  pages-within = h .paging .read .within
 
-  pub limit : length t ≤ tableLimit
-  limit = h .paging .read .limit
+  pub pages-limit : length t ≤ tableLimit
+  pages-limit = h .paging .read .limit
 
   pub pages-tree : p < length t → Right (treeAt t true depthLimit p)
   pages-tree l = step l .0

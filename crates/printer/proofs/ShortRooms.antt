@@ -38,11 +38,11 @@ pub puts-some : (b : Bool) (o : List ℕ) (n : ℕ) (r r′ : List ℕ) → b �
 puts-some b o n r r′ e h = rw e h
 
 -- spaces, of which the first is then a line break
-pub broken : (b b′ : List ℕ) (k : ℕ) → b′ ≡ over (replicate (k + 1) 32) b → set b′ 0 10 ≡ over (10 ∷ replicate k 32) b
-broken b b′ k e = ap (λ (r : List ℕ). set r 0 10) (e ∙ ap (λ (j : ℕ). over (replicate j 32) b) (add-one k))
+pub break-put : (b b′ : List ℕ) (k : ℕ) → b′ ≡ over (replicate (k + 1) 32) b → set b′ 0 10 ≡ over (10 ∷ replicate k 32) b
+break-put b b′ k e = ap (λ (r : List ℕ). set r 0 10) (e ∙ ap (λ (j : ℕ). over (replicate j 32) b) (add-one k))
 
-pub broken-size : (k : ℕ) → k + 1 ≡ length {A = ℕ} (10 ∷ replicate k 32)
-broken-size k = rw (length-replicate {0} {A = ℕ} k 32) (omega arith)
+pub break-size : (k : ℕ) → k + 1 ≡ length {A = ℕ} (10 ∷ replicate k 32)
+break-size k = rw (length-replicate {0} {A = ℕ} k 32) (omega arith)
 
 -- one byte
 pub one-byte : (b : List ℕ) (x : ℕ) → 0 < length b → set b 0 x ≡ over (x ∷ []) b

@@ -1,6 +1,7 @@
 // The check of a table and its measure in one walk, before a byte is written: what each tree costs, and the bytes that it takes.
 use crate::cost;
 use crate::gaps;
+use crate::room;
 use records::HEAD;
 use refusals::Refusal;
 use table::Step;
@@ -120,7 +121,7 @@ fn measure_list(
     let mut i = 0;
     let mut cost = n + 1;
     let mut empty = 0;
-    let mut len = 4 * indent + 3;
+    let mut len = room::nl_len(indent) + 2;
     while i < n {
         let q = table::past_symbol(t, p);
         if p < q {
@@ -161,7 +162,7 @@ fn measure_list(
         place: p,
         cost,
         empty,
-        len: len + (n - 1) * (4 * indent + 5),
+        len: len + (n - 1) * room::nl_len(indent + 1),
     }
 }
 

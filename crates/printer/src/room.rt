@@ -3,6 +3,7 @@ ghost use mathlib.Core.Path.{_≡_};
 ghost use mathlib.Core.Bool.{cond};
 ghost use mathlib.Core.List.{_∷_, []};
 ghost use Prim.Native.Nat.{_≤_};
+ghost use lib.ListN.{length};
 ghost use Rattle.refusals.specs.Numbers.{depthLimit};
 ghost use Rattle.printer.specs.Layout.{bytes, nl as nlOf};
 ghost use Rattle.printer.specs.PrivateWriting.{Puts};
@@ -36,12 +37,19 @@ pub fn put_unless(none: bool, b: u8, out: &mut [u8]) -> usize
     put_byte(b, out)
 }
 
-// A line break and 4 spaces for each indent.
+// The bytes of a line break: LF, and 4 spaces for each indent.
+pub fn nl_len(indent: usize) -> usize
+    requires { ⌜ indent ≤ depthLimit ⌝ }
+    ensures { λ r. ⌜ r ≡ length (bytes (nlOf indent)) ⌝ }
+{
+    4 * indent + 1
+}
+
 pub fn nl(indent: usize, out: &mut [u8]) -> usize
     requires { ⌜ indent ≤ depthLimit ⌝ }
     ensures { λ r. ⌜ Puts (bytes (nlOf indent)) r (now (out .entry)) (now (out .exit)) ⌝ }
 {
-    let n = 4 * indent + 1;
+    let n = nl_len(indent);
     if out.len() < n {
         return n;
     }

@@ -13,7 +13,7 @@ use Rattle.printer.proofs.CheckedRecords.{bad-found, symbol-found, inte
 use Rattle.printer.proofs.FitEntries.{list-small}
 use Rattle.printer.proofs.ListTexts.{broken, laid-symbol, laid-integer, laid-binding}
 use Rattle.printer.proofs.LayoutBounds.{inner-le}
-use Rattle.printer.proofs.ListWriting.{atom-written, binding-size, binding-written, Filling, filling-begin, item, filling-step, end-size, filling-end}
+use Rattle.printer.proofs.ListWriting.{atom-written, binding-size, binding-written, Filling, filling-begin, filling-item, filling-step, end-size, filling-end}
 use Rattle.printer.proofs.ListWriting.{fitting-written, wrapped-text, wrapped-ready, wrapped-item}
 use Rattle.printer.proofs.print_wrapped.Reads as print-wrapped
 use Rattle.printer.proofs.print_wrapped.Kinds as print-wrapped-kinds
@@ -190,7 +190,7 @@ put-gap-requires t c κs = let r = c .before .before .before .before .before .be
 add-k : (t : ℕ) → print-wrapped-lts.Need-add-k (calls t) (print-wrapped-at t) print-wrapped.Post Inv-loop μ-loop
 add-k t c =
     let v = c .before .before .before .before .before .before .loop .inv in
-    omega (arith, item v (c .before .before .before .before .before .loop-test .taken) .room, v .small, c .before .before .put-gap .ensures .0)
+    omega (arith, filling-item v (c .before .before .before .before .before .loop-test .taken) .room, v .small, c .before .before .put-gap .ensures .0)
 
 least-requires-3 : (t : ℕ) → print-wrapped-lts.Need-least-requires-3 (calls t) (print-wrapped-at t) print-wrapped.Post Inv-loop μ-loop
 least-requires-3 t c κs = search needs
@@ -224,7 +224,7 @@ print-wrapped-requires-2 t c κs =
     let r = s .pre .1 in
     let d = v .deeper in
     let j = c .before .before .item-indent .ensures in
-    (omega (arith, s .pre .0), (v .within, r .1, omega (arith, r .2, j, inner-le (eqb (c .before .before .before .before .before .before .before .before .before .before .loop .i) 0) Wrap (s .args .indent)), item v l .right, wrapped-ready (s .args .width) (s .args .indent) v l _ _ j (c .before .item-column .ensures)))
+    (omega (arith, s .pre .0), (v .within, r .1, omega (arith, r .2, j, inner-le (eqb (c .before .before .before .before .before .before .before .before .before .before .loop .i) 0) Wrap (s .args .indent)), filling-item v l .right, wrapped-ready (s .args .width) (s .args .indent) v l _ _ j (c .before .item-column .ensures)))
 
 add-w : (t : ℕ) → print-wrapped-lts.Need-add-w (calls t) (print-wrapped-at t) print-wrapped.Post Inv-loop μ-loop
 add-w t c =
@@ -232,7 +232,7 @@ add-w t c =
     let l = c .before .before .before .before .before .before .before .before .before .before .before .before .before .loop-test .taken in
     let s = c .before .before .before .before .before .before .before .before .before .before .before .before .before .before .before .before .before .before .before .before .before .before .before .before .before .before .before .args in
     let u = wrapped-item (s .width) (s .indent) v l _ _ (c .before .before .before .before .before .before .item-indent .ensures) (c .before .before .before .before .before .item-column .ensures) _ _ _ _ (c .before .before .before .print-wrapped2 .ensures) in
-    omega (arith, item v l .room, v .small, u .1 .0, c .before .before .before .before .before .before .before .before .before .before .put-gap .ensures .0)
+    omega (arith, filling-item v l .room, v .small, u .1 .0, c .before .before .before .before .before .before .before .before .before .before .put-gap .ensures .0)
 
 add-i : (t : ℕ) → print-wrapped-lts.Need-add-i (calls t) (print-wrapped-at t) print-wrapped.Post Inv-loop μ-loop
 add-i t c = omega (arith, c .before .before .before .before .before .before .before .before .before .before .before .before .before .loop-test .taken, list-small _ _ _ _ (λ i. (c .before .before .before .before .before .before .before .before .before .before .before .before .before .before .before .before .before .before .before .before .before .before .before .before .before .before .shared-slice-known .given i) .fits) (c .before .before .before .before .before .before .before .before .before .before .before .before .before .before .before .before .before .before .before .before .before .before .before .before .record-at .ensures) (c .before .before .before .before .before .before .before .before .before .before .before .before .before .before .before .before .before .before .before .before .before .before .node3 .given .1))

@@ -6,7 +6,7 @@ use lib.ListN.{length}
 use lib.Dec.{lit≤}
 use Rattle.printer.specs.Layout.{Wrap}
 use Rattle.printer.proofs.LayoutBounds.{right-len}
-use Rattle.printer.proofs.PageWriting.{Pages, pages-begin, pages-tree, pages-step, pages-end, within, limit}
+use Rattle.printer.proofs.PageWriting.{Pages, pages-begin, pages-tree, pages-step, pages-end, pages-within, pages-limit}
 use Rattle.printer.proofs.print_trees.Statement.{statement}
 use Rattle.printer.proofs.print_trees.Tie as tie
 
@@ -32,28 +32,28 @@ part-print-node-end : tie.Need-part-print-node-end Inv-loop μ-loop
 part-print-node-end c = search needs
 
 print-node-requires : tie.Need-print-node-requires Inv-loop μ-loop
-print-node-requires c κs = let v = c .before .before .before .loop .inv in (within v, limit v, pages-tree v (c .before .before .loop-test .taken))
+print-node-requires c κs = let v = c .before .before .before .loop .inv in (pages-within v, pages-limit v, pages-tree v (c .before .before .loop-test .taken))
 
 add-w : tie.Need-add-w Inv-loop μ-loop
 add-w c =
     let v = c .before .before .before .before .before .before .before .loop .inv in
     let s = c .before .before .before .before .before .before .before .before .before .before in
-    let l = right-len (s .args .t .now) _ (c .before .before .before .before .before .before .before .loop .p) Wrap (s .args .width) 0 0 (λ i. (c .before .before .before .before .before .before .before .before .before .shared-slice-known .given i) .fits) (within v) (lit≤ tt) (pages-tree v (c .before .before .before .before .before .before .loop-test .taken)) in
+    let l = right-len (s .args .t .now) _ (c .before .before .before .before .before .before .before .loop .p) Wrap (s .args .width) 0 0 (λ i. (c .before .before .before .before .before .before .before .before .before .shared-slice-known .given i) .fits) (pages-within v) (lit≤ tt) (pages-tree v (c .before .before .before .before .before .before .loop-test .taken)) in
     let n = pages-step v (c .before .before .before .before .before .before .loop-test .taken) _ _ _ _ (c .before .before .before .print-node .ensures) l (c .before .before .before .before .before .least .ensures .1) (c .before .before .out .given .1) in
-    omega (arith, n .small, within n, limit v)
+    omega (arith, n .small, pages-within n, pages-limit v)
 
 loop-less : tie.Need-loop-less Inv-loop μ-loop
 loop-less c =
     let v = c .before .before .before .before .before .before .before .loop .inv in
     let s = c .before .before .before .before .before .before .before .before .before .before in
-    let l = right-len (s .args .t .now) _ (c .before .before .before .before .before .before .before .loop .p) Wrap (s .args .width) 0 0 (λ i. (c .before .before .before .before .before .before .before .before .before .shared-slice-known .given i) .fits) (within v) (lit≤ tt) (pages-tree v (c .before .before .before .before .before .before .loop-test .taken)) in
+    let l = right-len (s .args .t .now) _ (c .before .before .before .before .before .before .before .loop .p) Wrap (s .args .width) 0 0 (λ i. (c .before .before .before .before .before .before .before .before .before .shared-slice-known .given i) .fits) (pages-within v) (lit≤ tt) (pages-tree v (c .before .before .before .before .before .before .loop-test .taken)) in
     omega (arith, c .before .before .before .print-node .ensures .0)
 
 loop-again : tie.Need-loop-again Inv-loop μ-loop
 loop-again c =
     let v = c .before .before .before .before .before .before .before .loop .inv in
     let s = c .before .before .before .before .before .before .before .before .before .before in
-    let l = right-len (s .args .t .now) _ (c .before .before .before .before .before .before .before .loop .p) Wrap (s .args .width) 0 0 (λ i. (c .before .before .before .before .before .before .before .before .before .shared-slice-known .given i) .fits) (within v) (lit≤ tt) (pages-tree v (c .before .before .before .before .before .before .loop-test .taken)) in
+    let l = right-len (s .args .t .now) _ (c .before .before .before .before .before .before .before .loop .p) Wrap (s .args .width) 0 0 (λ i. (c .before .before .before .before .before .before .before .before .before .shared-slice-known .given i) .fits) (pages-within v) (lit≤ tt) (pages-tree v (c .before .before .before .before .before .before .loop-test .taken)) in
     pages-step v (c .before .before .before .before .before .before .loop-test .taken) _ _ _ _ (c .before .before .before .print-node .ensures) l (c .before .before .before .before .before .least .ensures .1) (c .before .before .out .given .1)
 
 same-length : tie.Need-same-length Inv-loop μ-loop

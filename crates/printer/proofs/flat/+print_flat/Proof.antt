@@ -13,7 +13,7 @@ use Rattle.printer.proofs.CheckedRecords.{bad-found, symbol-found, inte
 use Rattle.printer.proofs.FitEntries.{list-small}
 use Rattle.printer.proofs.ListTexts.{flatly, line-symbol, line-integer, line-binding, line-list}
 use Rattle.printer.proofs.LayoutBounds.{right-line}
-use Rattle.printer.proofs.ListWriting.{atom-written, binding-size, binding-written, Filling, filling-begin, filling-is, item, so-far, filling-step, end-size, filling-end}
+use Rattle.printer.proofs.ListWriting.{atom-written, binding-size, binding-written, Filling, filling-begin, filling-is, filling-item, so-far, filling-step, end-size, filling-end}
 use Rattle.printer.proofs.flat.print_flat.Reads as print-flat
 use Rattle.printer.proofs.flat.print_flat.Kinds as print-flat-kinds
 use Rattle.printer.proofs.flat.+print_flat.Lts-print_flat as print-flat-lts
@@ -153,7 +153,7 @@ put-unless-requires t c κs = search needs
 add-k : (t : ℕ) → print-flat-lts.Need-add-k (calls t) (print-flat-at t) print-flat.Post Inv-loop μ-loop
 add-k t c =
     let v = c .before .before .before .before .before .before .loop .inv in
-    omega (arith, item v (c .before .before .before .before .before .loop-test .taken) .room, v .small, c .before .before .put-unless .ensures .0)
+    omega (arith, filling-item v (c .before .before .before .before .before .loop-test .taken) .room, v .small, c .before .before .put-unless .ensures .0)
 
 least-requires-3 : (t : ℕ) → print-flat-lts.Need-least-requires-3 (calls t) (print-flat-at t) print-flat.Post Inv-loop μ-loop
 least-requires-3 t c κs = search needs
@@ -166,7 +166,7 @@ named : (t : ℕ) (c : print-flat-lts.Then1 (calls t) (print-flat-at t) print-fl
     → Named (c .before .before .before .before .before .before .before .before .before .before .before .before .before .before .before .before .before .before .before .before .args .t .now) (c .before .before .before .before .before .before .before .before .before .before .before .before .before .before .before .before .before .before .before .before .args .depth - 1) (c .before .before .before .before .before .before .before .before .before .loop .p) (c .before .symbol-at .result)
 named t c =
     let v = c .before .before .before .before .before .before .before .before .before .loop .inv in
-    symbol-named (c .before .before .before .before .before .before .before .before .before .before .before .before .before .before .before .before .before .before .before .before .args .t .now) (c .before .before .before .before .before .before .before .before .before .before .before .before .before .before .before .before .before .before .before .before .args .depth - 1) (c .before .before .before .before .before .before .before .before .before .loop .p) _ (v .within) (item v (c .before .before .before .before .before .before .before .before .loop-test .taken) .right) (c .before .symbol-at .ensures) (c .if1 .taken)
+    symbol-named (c .before .before .before .before .before .before .before .before .before .before .before .before .before .before .before .before .before .before .before .before .args .t .now) (c .before .before .before .before .before .before .before .before .before .before .before .before .before .before .before .before .before .before .before .before .args .depth - 1) (c .before .before .before .before .before .before .before .before .before .loop .p) _ (v .within) (filling-item v (c .before .before .before .before .before .before .before .before .loop-test .taken) .right) (c .before .symbol-at .ensures) (c .if1 .taken)
 
 sub-put-symbol : (t : ℕ) → print-flat-lts.Need-sub-put-symbol (calls t) (print-flat-at t) print-flat.Post Inv-loop μ-loop
 sub-put-symbol t c = c .before .before .least3 .ensures .0
@@ -185,7 +185,7 @@ add-w t c =
     let v = c .before .before .before .before .before .before .before .before .before .before .before .before .before .loop .inv in
     let n = named t (c .before .before .before .before) in
     let k = payload-size (c .before .before .before .before .before .before .before .before .before .before .before .before .before .before .before .before .before .before .before .before .before .before .before .before .args .t .now) (c .before .before .before .before .before .before .before .before .before .before .before .before .before .loop .p) _ (n .1) (n .0) in
-    omega (arith, item v (c .before .before .before .before .before .before .before .before .before .before .before .before .loop-test .taken) .room, v .small, k, n .1, c .before .before .put-symbol2 .ensures .0, c .before .before .before .before .before .before .before .before .before .put-unless .ensures .0, c .before .before .before .before .before .before .before .before .before .before .before .before .before .before .before .before .before .before .before .before .before .before .before .before .pre .1)
+    omega (arith, filling-item v (c .before .before .before .before .before .before .before .before .before .before .before .before .loop-test .taken) .room, v .small, k, n .1, c .before .before .put-symbol2 .ensures .0, c .before .before .before .before .before .before .before .before .before .put-unless .ensures .0, c .before .before .before .before .before .before .before .before .before .before .before .before .before .before .before .before .before .before .before .before .before .before .before .before .pre .1)
 
 add-p-2 : (t : ℕ) → print-flat-lts.Need-add-p-2 (calls t) (print-flat-at t) print-flat.Post Inv-loop μ-loop
 add-p-2 t c = omega (arith, named t (c .before .before .before .before) .1, c .before .before .before .before .before .before .before .before .before .before .before .before .before .before .before .before .before .before .before .before .before .before .before .before .pre .1)
@@ -207,12 +207,12 @@ print-flat-requires-2 t c κs =
     let v = c .before .before .before .before .before .before .before .before .before .before .loop .inv in
     let s = c .before .before .before .before .before .before .before .before .before .before .before .before .before .before .before .before .before .before .before .before .before in
     let d = v .deeper in
-    (omega (arith, s .pre .0), (v .within, s .pre .1 .1, omega (arith, s .pre .1), item v (c .before .before .before .before .before .before .before .before .before .loop-test .taken) .right))
+    (omega (arith, s .pre .0), (v .within, s .pre .1 .1, omega (arith, s .pre .1), filling-item v (c .before .before .before .before .before .before .before .before .before .loop-test .taken) .right))
 
 add-w-2 : (t : ℕ) → print-flat-lts.Need-add-w-2 (calls t) (print-flat-at t) print-flat.Post Inv-loop μ-loop
 add-w-2 t c =
     let v = c .before .before .before .before .before .before .before .before .before .before .before .before .before .before .loop .inv in
-    omega (arith, item v (c .before .before .before .before .before .before .before .before .before .before .before .before .before .loop-test .taken) .room, v .small, c .before .before .before .print-flat2 .ensures .1 .0, c .before .before .before .before .before .before .before .before .before .before .put-unless .ensures .0)
+    omega (arith, filling-item v (c .before .before .before .before .before .before .before .before .before .before .before .before .before .loop-test .taken) .room, v .small, c .before .before .before .print-flat2 .ensures .1 .0, c .before .before .before .before .before .before .before .before .before .before .put-unless .ensures .0)
 
 add-i : (t : ℕ) → print-flat-lts.Need-add-i (calls t) (print-flat-at t) print-flat.Post Inv-loop μ-loop
 add-i t c = omega (arith, c .before .before .before .before .before .before .before .before .loop-test .taken, list-small _ _ _ _ (λ i. (c .before .before .before .before .before .before .before .before .before .before .before .before .before .before .before .before .before .before .before .shared-slice-known .given i) .fits) (c .before .before .before .before .before .before .before .before .before .before .before .before .before .before .before .before .before .record-at .ensures) (c .before .before .before .before .before .before .before .before .before .before .before .before .before .before .before .node3 .given .1))

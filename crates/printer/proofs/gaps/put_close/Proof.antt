@@ -1,7 +1,7 @@
 -- `printer::gaps::put_close`: one line for each kind of end.
 use mathlib.Core.List.{_∷_, []}
 use Rattle.printer.specs.Layout.{bytes, nl}
-use Rattle.printer.proofs.ShortRooms.{puts-both, broken-size}
+use Rattle.printer.proofs.ShortRooms.{puts-both, break-size}
 use Prim.Native.Nat.{_*_}
 use native.Mathlib.Omega.{arith}
 use borrow.Author.Needs.{needs}
@@ -38,7 +38,7 @@ put-byte-requires-2 c κs = search needs
 add-result : tie.Need-add-result
 add-result c =
     let n = c .before .before .before .before .before .before .before in
-    omega (arith, c .before .before .put-byte2 .ensures .0, n .nl .ensures .0, broken-size (4 * n .before .before .before .before .args .indent))
+    omega (arith, c .before .before .put-byte2 .ensures .0, n .nl .ensures .0, break-size (4 * n .before .before .before .before .args .indent))
 
 same-length-2 : tie.Need-same-length-2
 same-length-2 c = search needs

@@ -1,5 +1,5 @@
 -- `printer::measure::measure_tree` and `measure_list`, which call each other: the depth still allowed falls from a tree to the trees below it.
-use mathlib.Core.Path.{refl}
+use mathlib.Core.Path.{refl, ap}
 use mathlib.Core.Logic.{⊎-elim}
 use Prim.Native.Nat.{ℕ, _+_, _*_, _-_, _≤_, _<_}
 use native.Mathlib.Omega.{arith}
@@ -14,9 +14,9 @@ use Rattle.records.specs.Records.{headLen}
 use Rattle.table.specs.declared.Step.the-variants as step
 use Rattle.table.proofs.Steps.{step-in}
 use Rattle.printer.specs.Layout.{Wrap}
-use Rattle.printer.proofs.LayoutBounds.{inner-le, item-column-within}
+use Rattle.printer.proofs.LayoutBounds.{nl-len-le, inner-le, item-column-within}
 use Rattle.printer.proofs.MeasuringWalk.{got-tree, got-name, small, at-fault, at-symbol, at-integer, binding-stop, binding-good, at-list, list-few}
-use Rattle.printer.proofs.MeasuringWalk.{Walk, walk-begin, walk-name, walk-tree, walk-stop, walk-line, walk-wide, none-sized, breaks-fit, laid-fit}
+use Rattle.printer.proofs.MeasuringWalk.{Walk, walk-begin, walk-name, walk-tree, walk-stop, walk-line, walk-wide, none-sized, breaks-fit}
 use Rattle.printer.proofs.measure.measure_list.Reads as measure-list
 use Rattle.printer.proofs.measure.measure_list.Kinds as measure-list-kinds
 use Rattle.printer.proofs.measure.+measure_list+measure_tree.Lts-measure_list as measure-list-lts
@@ -34,6 +34,7 @@ use Rattle.wide.proofs.text_len.Reads as text-len-reads
 use Rattle.wide.proofs.wide_at.Reads as wide-at-reads
 use Rattle.printer.proofs.measure.+measure_list+measure_tree.{statement}
 use Rattle.printer.proofs.measure.+measure_list+measure_tree.Tie.{close}
+use Rattle.printer.proofs.room.nl_len.Reads as nl-len-reads
 
 abbrev μ-measure-list : Measures 1 measure-list-kinds.ps ℕ
 μ-measure-list κs a = 2 * a .1 .1 .1 .0 + 1
@@ -67,7 +68,7 @@ measure-tree-below t =
 
 -- the contracts of the functions that each calls
 abbrev measure-list-calls : ℕ → measure-list-lts.Claims
-measure-list-calls t = (past-symbol-reads.Asked, past-symbol-reads.Learnt, item-indent-reads.Asked, item-indent-reads.Learnt, item-column-reads.Asked, item-column-reads.Learnt, measure-tree-below t, measure-tree.Post, stopped-reads.Asked, stopped-reads.Learnt, fits-in-reads.Asked, fits-in-reads.Learnt)
+measure-list-calls t = (nl-len-reads.Asked, nl-len-reads.Learnt, past-symbol-reads.Asked, past-symbol-reads.Learnt, item-indent-reads.Asked, item-indent-reads.Learnt, item-column-reads.Asked, item-column-reads.Learnt, measure-tree-below t, measure-tree.Post, stopped-reads.Asked, stopped-reads.Learnt, fits-in-reads.Asked, fits-in-reads.Learnt)
 
 abbrev measure-tree-calls : ℕ → measure-tree-lts.Claims
 measure-tree-calls t = (step-at-reads.Asked, step-at-reads.Learnt, stopped-reads.Asked, stopped-reads.Learnt, atom-reads.Asked, atom-reads.Learnt, wide-at-reads.Asked, wide-at-reads.Learnt, text-len-reads.Asked, text-len-reads.Learnt, measure-tree-below t, measure-tree.Post, measure-list-below t, measure-list.Post)
@@ -85,7 +86,7 @@ measure-list-named : (t : ℕ) (c : measure-list-lts.Then2 (measure-list-calls t
     × (c .before .before .before .loop .len + (c .before .past-symbol .result - c .before .before .before .loop .p - 6) ≤ 8589934592)
 measure-list-named t c =
     let l = c .before .before .before .loop in
-    let b = c .before .before .before .before .before in
+    let b = c .before .before .before .before .before .before in
     let h = b .before .pre .1 in
     let g =
     walk-name _ _ _ _ _ _ _ _ _ _ _ _ (l .inv .1) (c .before .before .loop-test .taken) _ _ _ _ _ (λ i. (b .shared-slice-known .given i) .fits) (h .2) (c .before .past-symbol .ensures) (c .if2 .taken) refl refl refl refl in
@@ -97,7 +98,7 @@ measure-list-treed : (t : ℕ) (c : measure-list-lts.After-struct-known2 (measur
     × (c .before .before .before .before .before .before .before .before .before .loop .len + c .before .before .before .measure-tree .result .len ≤ 8589934592)
 measure-list-treed t c =
     let l = c .before .before .before .before .before .before .before .before .before .loop in
-    let b = c .before .before .before .before .before .before .before .before .before .before .before in
+    let b = c .before .before .before .before .before .before .before .before .before .before .before .before in
     let h = b .before .pre .1 in
     let g =
     walk-tree _ _ _ _ _ _ _ _ _ _ _ _ (l .inv .1) (c .before .before .before .before .before .before .before .before .loop-test .taken) _ _ _ _ _ _ _ (λ i. (b .shared-slice-known .given i) .fits) (h .2) (c .before .before .before .before .before .item-indent .ensures) (c .before .before .before .before .item-column .ensures)
@@ -110,14 +111,14 @@ measure-list-returns t c = none-sized _ _ _ _ _ _ _ _ (c .if1 .taken) (refl, ref
 measure-list-add-cost : (t : ℕ) → measure-list-lts.Need-add-cost (measure-list-calls t) (measure-list-at t) measure-list.Post measure-list-Inv-loop measure-list-μ-loop
 measure-list-add-cost t c = search needs
 
-measure-list-mul-len : (t : ℕ) → measure-list-lts.Need-mul-len (measure-list-calls t) (measure-list-at t) measure-list.Post measure-list-Inv-loop measure-list-μ-loop
-measure-list-mul-len t c = search needs
+measure-list-nl-len-requires : (t : ℕ) → measure-list-lts.Need-nl-len-requires (measure-list-calls t) (measure-list-at t) measure-list.Post measure-list-Inv-loop measure-list-μ-loop
+measure-list-nl-len-requires t c κs = search needs
 
 measure-list-add-len : (t : ℕ) → measure-list-lts.Need-add-len (measure-list-calls t) (measure-list-at t) measure-list.Post measure-list-Inv-loop measure-list-μ-loop
-measure-list-add-len t c = search needs
+measure-list-add-len t c = let s = c .before .before .before in omega (arith, nl-len-le (s .args .indent) (c .nl-len .result) (omega (arith, s .pre .1 .2)) (c .nl-len .ensures))
 
 measure-list-loop-holds : (t : ℕ) → measure-list-lts.Need-loop-holds (measure-list-calls t) (measure-list-at t) measure-list.Post measure-list-Inv-loop measure-list-μ-loop
-measure-list-loop-holds t c = (pos-of-ne-zero (c .if1 .left), walk-begin _ _ _ _ _ _ _ (c .before .before .pre .1 .0))
+measure-list-loop-holds t c = let h = c .before .before .before .pre .1 in (pos-of-ne-zero (c .before .if1 .left), walk-begin _ _ _ _ _ _ _ _ (h .0) (omega (arith, h .2)) (c .nl-len .ensures))
 
 measure-list-past-symbol-requires : (t : ℕ) → measure-list-lts.Need-past-symbol-requires (measure-list-calls t) (measure-list-at t) measure-list.Post measure-list-Inv-loop measure-list-μ-loop
 measure-list-past-symbol-requires t c κs = search needs
@@ -135,18 +136,18 @@ measure-list-add-len-2 : (t : ℕ) → measure-list-lts.Need-add-len-2 (measure-
 measure-list-add-len-2 t c = omega (arith, measure-list-named t c .1)
 
 measure-list-item-indent-requires : (t : ℕ) → measure-list-lts.Need-item-indent-requires (measure-list-calls t) (measure-list-at t) measure-list.Post measure-list-Inv-loop measure-list-μ-loop
-measure-list-item-indent-requires t c κs = omega (arith, c .before .before .before .before .before .before .pre .1)
+measure-list-item-indent-requires t c κs = omega (arith, c .before .before .before .before .before .before .before .pre .1)
 
 measure-list-add-item-column : (t : ℕ) → measure-list-lts.Need-add-item-column (measure-list-calls t) (measure-list-at t) measure-list.Post measure-list-Inv-loop measure-list-μ-loop
-measure-list-add-item-column t c = omega (arith, c .before .before .before .before .before .before .before .pre .1)
+measure-list-add-item-column t c = omega (arith, c .before .before .before .before .before .before .before .before .pre .1)
 
 measure-list-item-column-requires : (t : ℕ) → measure-list-lts.Need-item-column-requires (measure-list-calls t) (measure-list-at t) measure-list.Post measure-list-Inv-loop measure-list-μ-loop
-measure-list-item-column-requires t c κs = omega (arith, c .before .before .before .before .before .before .before .pre .1)
+measure-list-item-column-requires t c κs = omega (arith, c .before .before .before .before .before .before .before .before .pre .1)
 
 measure-list-measure-tree-requires : (t : ℕ) → measure-list-lts.Need-measure-tree-requires (measure-list-calls t) (measure-list-at t) measure-list.Post measure-list-Inv-loop measure-list-μ-loop
 measure-list-measure-tree-requires t c κs =
     let l = c .before .before .before .before .before .loop in
-    let s = c .before .before .before .before .before .before .before .before in
+    let s = c .before .before .before .before .before .before .before .before .before in
     let h = s .pre .1 in
     let g = l .inv .1 in
     let k = item-column-within (eqb (l .i) 0) (s .args .indent) (s .args .column + 1) (l .p + 4 * depthLimit) (omega (arith, h .3, g .from)) (omega (arith, h .2)) in
@@ -156,11 +157,7 @@ measure-list-stopped-requires : (t : ℕ) → measure-list-lts.Need-stopped-requ
 measure-list-stopped-requires t c κs = search needs
 
 measure-list-returns-2 : (t : ℕ) → measure-list-lts.Need-returns-2 (measure-list-calls t) (measure-list-at t) measure-list.Post measure-list-Inv-loop measure-list-μ-loop
-measure-list-returns-2 t c =
-    let l = c .before .before .before .before .before .before .before .before .before .loop in
-    let b = c .before .before .before .before .before .before .before .before .before .before .before in
-    let h = b .before .pre .1 in
-    walk-stop _ _ _ _ _ _ _ _ _ _ _ _ (l .inv .1) (c .before .before .before .before .before .before .before .before .loop-test .taken) _ _ _ _ (c .before .before .before .measure-tree .ensures) (c .before .if3 .taken) (c .stopped .ensures)
+measure-list-returns-2 t c = let l = c .before .before .before .before .before .before .before .before .before .loop in walk-stop _ _ _ _ _ _ _ _ _ _ _ _ (l .inv .1) (c .before .before .before .before .before .before .before .before .loop-test .taken) _ _ _ _ (c .before .before .before .measure-tree .ensures) (c .before .if3 .taken) (c .stopped .ensures)
 
 measure-list-add-cost-3 : (t : ℕ) → measure-list-lts.Need-add-cost-3 (measure-list-calls t) (measure-list-at t) measure-list.Post measure-list-Inv-loop measure-list-μ-loop
 measure-list-add-cost-3 t c = omega (arith, measure-list-treed t c .0)
@@ -180,7 +177,7 @@ measure-list-loop-less t c = search needs
 measure-list-loop-again : (t : ℕ) → measure-list-lts.Need-loop-again (measure-list-calls t) (measure-list-at t) measure-list.Post measure-list-Inv-loop measure-list-μ-loop
 measure-list-loop-again t c =
     let l = c .before .before .before .loop in
-    let b = c .before .before .before .before .before in
+    let b = c .before .before .before .before .before .before in
     let h = b .before .pre .1 in
     let lt = c .before .before .loop-test .taken in
     let hb : Bytes (b .before .args .t .now) = λ i. (b .shared-slice-known .given i) .fits in (
@@ -197,7 +194,7 @@ measure-list-fits-in-requires t c κs = search needs
 measure-list-add-t26 : (t : ℕ) → measure-list-lts.Need-add-t26 (measure-list-calls t) (measure-list-at t) measure-list.Post measure-list-Inv-loop measure-list-μ-loop
 measure-list-add-t26 t c =
     let g = c .before .before .before .loop .inv .1 in
-    let h = c .before .before .before .before .before .before .pre .1 in
+    let h = c .before .before .before .before .before .before .before .pre .1 in
     omega (arith, g .lines, g .from, g .within, h .1, h .4)
 
 measure-list-returns-3 : (t : ℕ) → measure-list-lts.Need-returns-3 (measure-list-calls t) (measure-list-at t) measure-list.Post measure-list-Inv-loop measure-list-μ-loop
@@ -206,23 +203,31 @@ measure-list-returns-3 t c = let l = c .before .before .before .loop in walk-lin
 measure-list-sub-t17 : (t : ℕ) → measure-list-lts.Need-sub-t17 (measure-list-calls t) (measure-list-at t) measure-list.Post measure-list-Inv-loop measure-list-μ-loop
 measure-list-sub-t17 t c = search needs
 
-measure-list-mul-t27 : (t : ℕ) → measure-list-lts.Need-mul-t27 (measure-list-calls t) (measure-list-at t) measure-list.Post measure-list-Inv-loop measure-list-μ-loop
-measure-list-mul-t27 t c = search needs
+measure-list-add-nl-len : (t : ℕ) → measure-list-lts.Need-add-nl-len (measure-list-calls t) (measure-list-at t) measure-list.Post measure-list-Inv-loop measure-list-μ-loop
+measure-list-add-nl-len t c = search needs
 
-measure-list-add-t28 : (t : ℕ) → measure-list-lts.Need-add-t28 (measure-list-calls t) (measure-list-at t) measure-list.Post measure-list-Inv-loop measure-list-μ-loop
-measure-list-add-t28 t c = search needs
+measure-list-nl-len-requires-2 : (t : ℕ) → measure-list-lts.Need-nl-len-requires-2 (measure-list-calls t) (measure-list-at t) measure-list.Post measure-list-Inv-loop measure-list-μ-loop
+measure-list-nl-len-requires-2 t c κs = let h = c .before .before .before .before .before .before .before .pre .1 in omega (arith, h .2)
 
 measure-list-mul-t29 : (t : ℕ) → measure-list-lts.Need-mul-t29 (measure-list-calls t) (measure-list-at t) measure-list.Post measure-list-Inv-loop measure-list-μ-loop
-measure-list-mul-t29 t c = let h = c .before .before .before .before .before .before .pre .1 in record { fits = breaks-fit _ _ (omega (arith, h .4)) (omega (arith, h .2)) }
+measure-list-mul-t29 t c =
+    let s = c .before .before .before .before .before .before .before .before in
+    let h = s .pre .1 in
+    omega (arith, breaks-fit (s .args .n - 1) (c .nl-len2 .result) (s .args .indent + 1) (omega (arith, h .4)) (omega (arith, h .2)) (c .nl-len2 .ensures))
 
 measure-list-add-t30 : (t : ℕ) → measure-list-lts.Need-add-t30 (measure-list-calls t) (measure-list-at t) measure-list.Post measure-list-Inv-loop measure-list-μ-loop
 measure-list-add-t30 t c =
-    let h = c .before .before .before .before .before .before .pre .1 in
-    let g = c .before .before .before .loop .inv .1 in
-    record { fits = laid-fit _ _ _ (omega (arith, g .lays, g .from, g .within, h .1, h .2)) (omega (arith, h .4)) (omega (arith, h .2)) }
+    let s = c .before .before .before .before .before .before .before .before in
+    let h = s .pre .1 in
+    let g = c .before .before .before .before .loop .inv .1 in
+    omega (arith, breaks-fit (s .args .n - 1) (c .nl-len2 .result) (s .args .indent + 1) (omega (arith, h .4)) (omega (arith, h .2)) (c .nl-len2 .ensures), g .lays, g .from, g .within, h .1)
 
 measure-list-returns-4 : (t : ℕ) → measure-list-lts.Need-returns-4 (measure-list-calls t) (measure-list-at t) measure-list.Post measure-list-Inv-loop measure-list-μ-loop
-measure-list-returns-4 t c = let l = c .before .before .before .loop in walk-wide _ _ _ _ _ _ _ _ _ _ _ _ (l .inv .1) (c .before .before .loop-test .left) (l .inv .0) _ _ (c .before .fits-in .ensures) (c .if4 .left) (refl, refl, refl, refl, omega arith)
+measure-list-returns-4 t c =
+    let l = c .before .before .before .before .loop in
+    let n = c .before .before .before .before .before .before .before .before .args .n in
+    walk-wide _ _ _ _ _ _ _ _ _ _ _ _ (l .inv .1) (c .before .before .before .loop-test .left) (l .inv .0) _ _ (c .before .before .fits-in .ensures) (c .before .if4 .left)
+    (refl, refl, refl, refl, ap (λ (j : ℕ). l .len + (n - 1) * j) (c .nl-len2 .ensures))
 
 -- no sum wraps at a binding
 measure-tree-bound : (t : ℕ) (c : measure-tree-lts.After-struct-known2 (measure-tree-calls t) (measure-tree-at t) measure-tree.Post)
@@ -344,13 +349,13 @@ measure-tree-returns-6 t c = at-list _ _ _ _ (c .before .before .before .before 
 pub +measure-list+measure-tree-spec : {M : Type 1} → statement M
 +measure-list+measure-tree-spec = close μ-measure-list μ-measure-tree
     (λ t. measure-list-lts.spec (measure-list-calls t) (measure-list-at t) measure-list.Post measure-list-Inv-loop measure-list-μ-loop
-    (measure-list-returns t) (measure-list-add-cost t) (measure-list-mul-len t) (measure-list-add-len t) (measure-list-loop-holds t)
+    (measure-list-returns t) (measure-list-add-cost t) (measure-list-nl-len-requires t) (measure-list-add-len t) (measure-list-loop-holds t)
     (measure-list-past-symbol-requires t) (measure-list-sub-k t) (measure-list-sub-k-2 t) (measure-list-add-cost-2 t) (measure-list-add-len-2 t)
     (measure-list-item-indent-requires t) (measure-list-add-item-column t) (measure-list-item-column-requires t) (measure-list-measure-tree-requires t)
     (measure-list-stopped-requires t) (measure-list-returns-2 t) (measure-list-add-cost-3 t) (measure-list-add-empty t) (measure-list-add-len-3 t)
     (measure-list-add-i t) (measure-list-loop-less t) (measure-list-loop-again t) (measure-list-fits-in-requires t) (measure-list-add-t26 t)
-    (measure-list-returns-3 t) (measure-list-sub-t17 t) (measure-list-mul-t27 t) (measure-list-add-t28 t) (measure-list-mul-t29 t) (measure-list-add-t30 t)
-    (measure-list-returns-4 t))
+    (measure-list-returns-3 t) (measure-list-sub-t17 t) (measure-list-add-nl-len t) (measure-list-nl-len-requires-2 t) (measure-list-mul-t29 t)
+    (measure-list-add-t30 t) (measure-list-returns-4 t))
     λ t. measure-tree-lts.spec (measure-tree-calls t) (measure-tree-at t) measure-tree.Post
     (measure-tree-step-at-requires t) (measure-tree-enum-known-step t) (measure-tree-stopped-requires t) (measure-tree-enum-known-step-2 t)
     (measure-tree-add-atom t) (measure-tree-sub-atom t) (measure-tree-atom-requires t) (measure-tree-enum-told t) (measure-tree-add-atom-2 t)

@@ -7,7 +7,7 @@ use borrow.Author.Needs.{needs}
 use lib.ListN.{length, length-set, replicate, set}
 use Rattle.lists.specs.Over.{over}
 use Rattle.lists.proofs.Writing.{over-more}
-use Rattle.printer.proofs.ShortRooms.{broken, broken-size}
+use Rattle.printer.proofs.ShortRooms.{break-put, break-size}
 use Rattle.printer.proofs.room.nl.Statement.{statement}
 use Rattle.printer.proofs.room.nl.Tie as tie
 
@@ -17,14 +17,11 @@ Inv-loop indent out₀ n i₀ out i = (i ≤ n) × (length out ≡ length out₀
 abbrev μ-loop : tie.MeasureT-loop
 μ-loop indent out₀ n i₀ out i = n - i
 
-mul-n : tie.Need-mul-n Inv-loop μ-loop
-mul-n c = search needs
-
-add-n : tie.Need-add-n Inv-loop μ-loop
-add-n c = search needs
+nl-len-requires : tie.Need-nl-len-requires Inv-loop μ-loop
+nl-len-requires c κs = search needs
 
 returns : tie.Need-returns Inv-loop μ-loop
-returns c = (broken-size (4 * c .before .args .indent), λ l. absurd (omega (arith, broken-size (4 * c .before .args .indent))))
+returns c = (c .before .nl-len .ensures, λ l. absurd (omega (arith, c .before .nl-len .ensures)))
 
 loop-holds : tie.Need-loop-holds Inv-loop μ-loop
 loop-holds c = search needs
@@ -51,12 +48,13 @@ same-length c = search needs
 
 returns-2 : tie.Need-returns-2 Inv-loop μ-loop
 returns-2 c =
-    let k : ℕ = 4 * c .before .before .before .args .indent in
-    let e : c .before .loop .i ≡ k + 1 = omega arith in
-    let b : List ℕ = c .before .before .before .args .out .now in
-    (broken-size k, λ l. broken b _ k (c .before .loop .inv .2 ∙ ap (λ (j : ℕ). over (replicate j 32) b) e))
+    let s = c .before .before .before .before .before .args in
+    let k : ℕ = 4 * s .indent in
+    let n = c .before .before .before .nl-len .ensures in
+    let e : c .before .loop .i ≡ k + 1 = omega (arith, n, break-size k) in
+    (n, λ l. break-put (s .out .now) _ k (c .before .loop .inv .2 ∙ ap (λ (j : ℕ). over (replicate j 32) (s .out .now)) e))
 
 pub nl-spec : {M : Type 1} → statement M
 nl-spec =
     tie.close
-    (tie.spec Inv-loop μ-loop mul-n add-n returns loop-holds slice-write-out add-i loop-less loop-again slice-write-out-2 same-length returns-2)
+    (tie.spec Inv-loop μ-loop nl-len-requires returns loop-holds slice-write-out add-i loop-less loop-again slice-write-out-2 same-length returns-2)
