@@ -7,22 +7,26 @@ use lib.IntN.{ℤ}
 use lib.ListN.{length, take, drop, length-append, length-drop}
 use lib.Seq.{length-take-le}
 use Rattle.refusals.specs.Numbers.{sourceLimit}
-use Rattle.lexer.specs.Tokens.{Kind, lparen, rparen, at-sign, symbol, int, Token, past, Answer, end, is, refused}
+use Rattle.refusals.specs.Result.{ok, refused}
+use Rattle.lexer.specs.Tokens.{Kind, lparen, rparen, at-sign, symbol, int, Token, past, Answer, end, is}
 use Rattle.lexer.specs.Lexing.{nextToken}
 use Rattle.lexer.proofs.Within.{Lies, Shaped, within, limited, apart}
 use Rattle.wide.specs.Bytes.{le, wideBytes}
 use Rattle.wide.proofs.Numbers.{le-length, wide-length}
-use Rattle.table.specs.Trees.{Tree, Trees, symbol as symbolTree, integer, binding, list, none, more, count, record-of, records, recordsOf}
-use Rattle.table.proofs.Heads.{length-record}
-use Rattle.reader.specs.Grammar.{nameOf, after}
-use Rattle.reader.specs.Sizes.{pastOf, Lexes}
-use Rattle.reader.proofs.Derived.{Derives, DerivesAll}
+use Rattle.records.specs.Records.{headLen, record-of}
+use Rattle.table.specs.Kinds.{symbolKind, integerKind, bindingKind, listKind, integerLen, listLen}
+use Rattle.table.specs.Trees.{Tree, Trees, symbol as symbolTree, integer, binding, list, none, more, count, records, recordsOf}
+use Rattle.records.proofs.Heads.{length-record}
+use Rattle.reader.specs.Grammar.{nameOf, after, ifAt}
+use Rattle.reader.specs.PrivateWalk.{pastOf, signOf, Lexes}
+use Rattle.reader.specs.declared.parts.Sign.the-variants.{At, Other}
+use Rattle.reader.proofs.Derivation.{Derives, DerivesAll}
 
 -- the place of a token; of the end and of a refusal, the source's length l
 abbrev pub place : ℕ → Answer → ℕ
-place l end = l
+place l (ok end) = l
 place l (refused n p) = l
-place l (is t) = t .start
+place l (ok (is t)) = t .start
 
 -- an integer of one byte has 22 bytes of records, but another byte stands between it and the next: it owes one
 abbrev owed : Kind → ℕ
@@ -34,9 +38,9 @@ owed (int z) = 1
 
 -- twice the bytes that may have been needed before a token: 14 for each byte before it, and 15 for each up to its end that is not owed
 abbrev pub weigh : ℕ → Answer → ℕ
-weigh l end = 29 * l + 15
+weigh l (ok end) = 29 * l + 15
 weigh l (refused n p) = 29 * l + 15
-weigh l (is t) = 14 * t .start + 15 * (past t - owed (t .kind))
+weigh l (ok (is t)) = 14 * t .start + 15 * (past t - owed (t .kind))
 
 owed-one : (k : Kind) → owed k ≤ 1
 owed-one lparen = omega arith
@@ -68,7 +72,7 @@ pub record Onward (s : List ℕ) (t : Token) (a : Answer) : Type 0 where
 pub next-of : (s : List ℕ) (t : Token) → Lexes s (after s t)
 next-of s t = record { place = past t; gives = refl }
 
-pub onward : (s : List ℕ) (t : Token) → Lexes s (is t) → Onward s t (after s t)
+pub onward : (s : List ℕ) (t : Token) → Lexes s (ok (is t)) → Onward s t (after s t)
 onward s t h = by (after s t) refl
   where
     lies : Lies s (h .place) t
@@ -78,11 +82,11 @@ onward s t h = by (after s t) refl
     short = limited s (h .place) t (h .gives)
 
     by : (a : Answer) → after s t ≡ a → Onward s t a
-    by end e =
+    by (ok end) e =
         record { some = lies .some; to = lies .to; top = omega arith; small = short; weighs = omega (arith, lies .to, owed-one (t .kind)) }
     by (refused n p) e =
         record { some = lies .some; to = lies .to; top = omega arith; small = short; weighs = omega (arith, lies .to, owed-one (t .kind)) }
-    by (is u) e =
+    by (ok (is u)) e =
         let w : Lies s (past t) u = within s (past t) u e in
         let two = owed-two (t .kind) (u .kind) (past t) (past u) (λ y z f g. apart s (h .place) t u y z (h .gives) e f g) (omega (arith, w .from, w .some)) in
         record {
@@ -95,19 +99,19 @@ onward s t h = by (after s t) refl
 
 -- the place past a token, a token's place, and its weight are at most the source's
 pub past-top : (s : List ℕ) (a : Answer) → Lexes s a → pastOf a ≤ length s
-past-top s end h = omega arith
+past-top s (ok end) h = omega arith
 past-top s (refused n p) h = omega arith
-past-top s (is t) h = within s (h .place) t (h .gives) .to
+past-top s (ok (is t)) h = within s (h .place) t (h .gives) .to
 
 pub place-top : (s : List ℕ) (a : Answer) → Lexes s a → place (length s) a ≤ length s
-place-top s end h = omega arith
+place-top s (ok end) h = omega arith
 place-top s (refused n p) h = omega arith
-place-top s (is t) h = omega (arith, past-top s (is t) h)
+place-top s (ok (is t)) h = omega (arith, past-top s (ok (is t)) h)
 
 pub weigh-top : (s : List ℕ) (a : Answer) → Lexes s a → weigh (length s) a ≤ 29 * length s + 15
-weigh-top s end h = omega arith
+weigh-top s (ok end) h = omega arith
 weigh-top s (refused n p) h = omega arith
-weigh-top s (is t) h = omega (arith, past-top s (is t) h)
+weigh-top s (ok (is t)) h = omega (arith, past-top s (ok (is t)) h)
 
 -- ---- the sizes of records
 
@@ -129,11 +133,11 @@ pub record SpansAll (s : List ℕ) (a b : Answer) (k n : ℕ) : Type 0 where
   pub on : k + place (length s) a ≤ place (length s) b
   pub size : 2 * n + weigh (length s) a ≤ weigh (length s) b
 
-symbol-spans : (s : List ℕ) (t : Token) → Lexes s (is t) → Spans s (is t) (after s t) (length (records (symbolTree (nameOf s t))))
+symbol-spans : (s : List ℕ) (t : Token) → Lexes s (ok (is t)) → Spans s (ok (is t)) (after s t) (length (records (symbolTree (nameOf s t))))
 unfolding records
 symbol-spans s t h =
     let o = onward s t h in
-    let n : length (record-of 1 (nameOf s t)) ≡ t .size + 6 = length-record 1 (nameOf s t) ∙ ap (λ (k : ℕ). k + 6) (name-length s t (omega (arith, o .to, o .top))) in
+    let n : length (record-of symbolKind (nameOf s t)) ≡ t .size + headLen = length-record symbolKind (nameOf s t) ∙ ap (λ (k : ℕ). k + headLen) (name-length s t (omega (arith, o .to, o .top))) in
     record {
       lexes = next-of s t;
       on = omega (arith, o .some, o .to);
@@ -142,12 +146,12 @@ symbol-spans s t h =
       size = omega (arith, o .weighs, o .some);
     }
 
-integer-spans : (s : List ℕ) (t : Token) (z : ℤ) → t .kind ≡ int z → Lexes s (is t) → Spans s (is t) (after s t) (length (records (integer z)))
+integer-spans : (s : List ℕ) (t : Token) (z : ℤ) → t .kind ≡ int z → Lexes s (ok (is t)) → Spans s (ok (is t)) (after s t) (length (records (integer z)))
 unfolding records
 integer-spans s t z k h =
     let o = onward s t h in
     let one : owed (t .kind) ≡ 1 = ap owed k in
-    let n : length (record-of 2 (wideBytes z)) ≡ 22 = length-record 2 (wideBytes z) ∙ ap (λ (k : ℕ). k + 6) (wide-length z) in
+    let n : length (record-of integerKind (wideBytes z)) ≡ integerLen = length-record integerKind (wideBytes z) ∙ ap (λ (k : ℕ). k + headLen) (wide-length z) in
     record {
       lexes = next-of s t;
       on = omega (arith, o .some, o .to);
@@ -156,33 +160,53 @@ integer-spans s t z k h =
       size = omega (arith, o .weighs, o .some);
     }
 
-binding-spans : (s : List ℕ) (t u : Token) (x : Tree) (b : Answer) → Lexes s (is t) → after s t ≡ is u → Spans s (after s u) b (length (records x))
-    → Spans s (is t) b (length (records (binding (nameOf s t) x)))
-unfolding records
-binding-spans s t u x b h e w =
-    let o : Onward s t (is u) = subst (Onward s t) e (onward s t h) in
-    let q = onward s u (subst (Lexes s) e (next-of s t)) in
-    let m : length (record-of 3 (nameOf s t)) ≡ t .size + 6 =
-    length-record 3 (nameOf s t) ∙ ap (λ (k : ℕ). k + 6) (name-length s t (omega (arith, o .to, o .top))) in
-    let n : length (record-of 3 (nameOf s t) ++ records x) ≡ t .size + 6 + length (records x) =
-    length-append (record-of 3 (nameOf s t)) (records x) ∙ ap (λ (k : ℕ). k + length (records x)) m in
-    record {
-      lexes = w .lexes;
-      on = omega (arith, o .some, o .to, q .some, q .to, w .on);
-      top = w .top;
-      small = o .small;
-      size = omega (arith, o .weighs, o .some, q .weighs, q .some, w .size);
-    }
+at-past : (k : Kind) (p q : ℕ) → ifAt k (At p) Other ≡ At q → p ≡ q
+at-past at-sign p q e = cc
+at-past lparen p q e = let z : _≡_ {A = ℕ} 0 1 = cc in absurd (omega arith)
+at-past rparen p q e = let z : _≡_ {A = ℕ} 0 1 = cc in absurd (omega arith)
+at-past symbol p q e = let z : _≡_ {A = ℕ} 0 1 = cc in absurd (omega arith)
+at-past (int i) p q e = let z : _≡_ {A = ℕ} 0 1 = cc in absurd (omega arith)
 
-list-spans : (s : List ℕ) (t u : Token) (xs : Trees) → Lexes s (is t) → SpansAll s (after s t) (is u) (count xs) (length (recordsOf xs))
-    → Spans s (is t) (after s u) (length (records (list xs)))
+-- a name, and the `@` behind it up to the place q
+pub name-spans : (s : List ℕ) (t : Token) (q : ℕ) → Lexes s (ok (is t)) → signOf (after s t) ≡ At q
+    → Spans s (ok (is t)) (nextToken s q) (length (record-of bindingKind (nameOf s t)))
+name-spans s t q h e = by (after s t) (onward s t h) (next-of s t) e
+  where
+    by : (a : Answer) → Onward s t a → Lexes s a → signOf a ≡ At q → Spans s (ok (is t)) (nextToken s q) (length (record-of bindingKind (nameOf s t)))
+    by (ok end) o l e = let z : _≡_ {A = ℕ} 0 1 = cc in absurd (omega arith)
+    by (refused n p) o l e = let z : _≡_ {A = ℕ} 0 1 = cc in absurd (omega arith)
+    by (ok (is u)) o l e =
+        let qe : past u ≡ q = at-past (u .kind) (past u) q e in
+        let w = onward s u l in
+        let m : length (record-of bindingKind (nameOf s t)) ≡ t .size + headLen =
+        length-record bindingKind (nameOf s t) ∙ ap (λ (k : ℕ). k + headLen) (name-length s t (omega (arith, o .to, o .top))) in
+        subst (λ (p : ℕ). Spans s (ok (is t)) (nextToken s p) (length (record-of bindingKind (nameOf s t)))) qe
+        (record {
+          lexes = next-of s u;
+          on = omega (arith, o .some, o .to, w .some, w .to);
+          top = w .top;
+          small = o .small;
+          size = omega (arith, o .weighs, o .some, w .weighs, w .some);
+        })
+
+binding-spans : (s : List ℕ) (t u : Token) (x : Tree) (b : Answer) → Lexes s (ok (is t)) → after s t ≡ ok (is u) → u .kind ≡ at-sign
+    → Spans s (after s u) b (length (records x)) → Spans s (ok (is t)) b (length (records (binding (nameOf s t) x)))
+unfolding records
+binding-spans s t u x b h e k w =
+    let sign : signOf (after s t) ≡ At (past u) = ap signOf e ∙ ap (λ (i : Kind). ifAt i (At (past u)) Other) k in
+    let n = name-spans s t (past u) h sign in
+    let l = length-append (record-of bindingKind (nameOf s t)) (records x) in
+    record { lexes = w .lexes; on = omega (arith, n .on, w .on); top = w .top; small = w .small; size = omega (arith, n .size, w .size) }
+
+list-spans : (s : List ℕ) (t u : Token) (xs : Trees) → Lexes s (ok (is t)) → SpansAll s (after s t) (ok (is u)) (count xs) (length (recordsOf xs))
+    → Spans s (ok (is t)) (after s u) (length (records (list xs)))
 unfolding records
 list-spans s t u xs h w =
     let o = onward s t h in
     let q = onward s u (w .lexes) in
-    let m : length (record-of 4 (le 4 (count xs))) ≡ 10 = length-record 4 (le 4 (count xs)) ∙ ap (λ (k : ℕ). k + 6) (le-length 4 (count xs)) in
-    let n : length (record-of 4 (le 4 (count xs)) ++ recordsOf xs) ≡ 10 + length (recordsOf xs) =
-    length-append (record-of 4 (le 4 (count xs))) (recordsOf xs) ∙ ap (λ (k : ℕ). k + length (recordsOf xs)) m in
+    let m : length (record-of listKind (le 4 (count xs))) ≡ listLen = length-record listKind (le 4 (count xs)) ∙ ap (λ (k : ℕ). k + headLen) (le-length 4 (count xs)) in
+    let n : length (record-of listKind (le 4 (count xs)) ++ recordsOf xs) ≡ listLen + length (recordsOf xs) =
+    length-append (record-of listKind (le 4 (count xs))) (recordsOf xs) ∙ ap (λ (k : ℕ). k + length (recordsOf xs)) m in
     record {
       lexes = next-of s u;
       on = omega (arith, o .some, o .to, q .some, q .to, w .on);
@@ -198,24 +222,24 @@ mutual
   spans (symbolTree n) s d a b h w =
       let t = w .0 in
       subst⁻¹ (λ (c : Answer). Spans s c b (length (records (symbolTree n)))) (w .1)
-      (subst⁻¹ (λ (c : Answer). Spans s (is t) c (length (records (symbolTree n)))) (w .4)
-      (subst⁻¹ (λ (m : List ℕ). Spans s (is t) (after s t) (length (records (symbolTree m)))) (w .3) (symbol-spans s t (subst (Lexes s) (w .1) h))))
+      (subst⁻¹ (λ (c : Answer). Spans s (ok (is t)) c (length (records (symbolTree n)))) (w .4)
+      (subst⁻¹ (λ (m : List ℕ). Spans s (ok (is t)) (after s t) (length (records (symbolTree m)))) (w .3) (symbol-spans s t (subst (Lexes s) (w .1) h))))
   spans (integer z) s d a b h w =
       let t = w .0 in
       subst⁻¹ (λ (c : Answer). Spans s c b (length (records (integer z)))) (w .1)
-      (subst⁻¹ (λ (c : Answer). Spans s (is t) c (length (records (integer z)))) (w .3) (integer-spans s t z (w .2) (subst (Lexes s) (w .1) h)))
+      (subst⁻¹ (λ (c : Answer). Spans s (ok (is t)) c (length (records (integer z)))) (w .3) (integer-spans s t z (w .2) (subst (Lexes s) (w .1) h)))
   spans (binding n x) s d a b h w =
       let t = w .0 in
       let u = w .1 in
       subst⁻¹ (λ (c : Answer). Spans s c b (length (records (binding n x)))) (w .2)
-      (subst⁻¹ (λ (m : List ℕ). Spans s (is t) b (length (records (binding m x)))) (w .4)
-      (binding-spans s t u x b (subst (Lexes s) (w .2) h) (w .5) (spans x s (d - 1) (after s u) b (next-of s u) (w .8))))
+      (subst⁻¹ (λ (m : List ℕ). Spans s (ok (is t)) b (length (records (binding m x)))) (w .4)
+      (binding-spans s t u x b (subst (Lexes s) (w .2) h) (w .5) (w .6) (spans x s (d - 1) (after s u) b (next-of s u) (w .8))))
   spans (list xs) s d a b h w =
       let t = w .0 in
       let u = w .1 in
       subst⁻¹ (λ (c : Answer). Spans s c b (length (records (list xs)))) (w .2)
-      (subst⁻¹ (λ (c : Answer). Spans s (is t) c (length (records (list xs)))) (w .7)
-      (list-spans s t u xs (subst (Lexes s) (w .2) h) (spans-all xs s (d - 1) (after s t) (is u) (next-of s t) (w .5))))
+      (subst⁻¹ (λ (c : Answer). Spans s (ok (is t)) c (length (records (list xs)))) (w .7)
+      (list-spans s t u xs (subst (Lexes s) (w .2) h) (spans-all xs s (d - 1) (after s t) (ok (is u)) (next-of s t) (w .5))))
 
   pub spans-all : (xs : Trees) (s : List ℕ) (d : ℕ) (a b : Answer) → Lexes s a → DerivesAll xs s d a b → SpansAll s a b (count xs) (length (recordsOf xs))
   spans-all none s d a b h w =

@@ -4,7 +4,8 @@ use mathlib.Core.Bool.{Bool, true, false, cond}
 use mathlib.Core.List.{List}
 use lib.ListN.{length, take, drop}
 use Rattle.refusals.specs.Numbers.{depthLimit, noListOpen, listOpen, noSymbol, noTree, tooDeep}
-use Rattle.lexer.specs.Tokens.{Kind, lparen, rparen, at-sign, symbol, int, Token, past, Answer, end, is, refused}
+use Rattle.refusals.specs.Result.{Result, ok, refused, andThen}
+use Rattle.lexer.specs.Tokens.{Kind, lparen, rparen, at-sign, symbol, int, Token, past, Answer, end, is}
 use Rattle.lexer.specs.Lexing.{nextToken}
 use Rattle.table.specs.Trees.{Tree, Trees, symbol as symbolTree, integer, binding, list, none, more}
 
@@ -15,47 +16,42 @@ nameOf s t = take (t .size) (drop (t .start) s)
 abbrev pub after : List ℕ → Token → Answer
 after s t = nextToken s (past t)
 
--- what begins with the token at hand: a tree, and the token after it; a `)`; the source's end; or a refusal's number and place
+-- what begins with the token at hand: a tree, and the token after it; a `)`; or the source's end
 pub data One : Type 0 where
   got : Tree → Answer → One
   closed : Token → One
   ended : One
-  no : ℕ → ℕ → One
 
--- trees in a row, and what stopped them: a `)`, or the source's end; or a refusal
+-- trees in a row, and what stopped them: a `)`, or the source's end
 pub data Many : Type 0 where
   upTo : Trees → Token → Many
   toEnd : Trees → Many
-  none-of : ℕ → ℕ → Many
 
-abbrev pub cons : Tree → Many → Many
-cons x (upTo xs t) = upTo (more x xs) t
-cons x (toEnd xs) = toEnd (more x xs)
-cons x (none-of n a) = none-of n a
+abbrev pub cons : Tree → Many → Result Many
+cons x (upTo xs t) = ok (upTo (more x xs) t)
+cons x (toEnd xs) = ok (toEnd (more x xs))
 
-abbrev pub andThen : One → (Answer → Many) → Many
-andThen (got x a) rest = cons x (rest a)
-andThen (closed t) rest = upTo none t
-andThen ended rest = toEnd none
-andThen (no n a) rest = none-of n a
+-- a tree goes before those that follow it
+abbrev pub onward : (Answer → Result Many) → One → Result Many
+onward rest (got x a) = andThen (rest a) (cons x)
+onward rest (closed t) = ok (upTo none t)
+onward rest ended = ok (toEnd none)
 
--- trees in a row from the token at hand, each read by f; fewer than k of them
-unfoldable pub readItems : (Answer → One) → ℕ → Answer → Many
-readItems f zero a = none-of 0 0
-readItems f (suc k) a = andThen (f a) (readItems f k)
+-- trees in a row from the token at hand, each read by f; fewer than k of them. 0 is the number of no refusal
+unfoldable pub readItems : (Answer → Result One) → ℕ → Answer → Result Many
+readItems f zero a = refused 0 0
+readItems f (suc k) a = andThen (f a) (onward (readItems f k))
 
 -- a list whose `(` is the token t, by its items: open at the end it is refused at its `(`
-abbrev pub listed : List ℕ → Token → Many → One
-listed s t (upTo xs u) = got (list xs) (after s u)
-listed s t (toEnd xs) = no listOpen (t .start)
-listed s t (none-of n a) = no n a
+abbrev pub listed : List ℕ → Token → Many → Result One
+listed s t (upTo xs u) = ok (got (list xs) (after s u))
+listed s t (toEnd xs) = refused listOpen (t .start)
 
 -- a binding of a name, by what follows its `@`: `)` or the end directly after it is refused there
-abbrev pub bound : List ℕ → List ℕ → One → One
-bound s n (got x a) = got (binding n x) a
-bound s n (closed t) = no noTree (t .start)
-bound s n ended = no noTree (length s)
-bound s n (no k a) = no k a
+abbrev pub bound : List ℕ → List ℕ → One → Result One
+bound s n (got x a) = ok (got (binding n x) a)
+bound s n (closed t) = refused noTree (t .start)
+bound s n ended = refused noTree (length s)
 
 -- x for an `@`, y for any other kind
 abbrev pub ifAt : {A : Type 0} → Kind → A → A → A
@@ -66,40 +62,35 @@ ifAt symbol x y = y
 ifAt (int z) x y = y
 
 -- a symbol t by the token after it: an `@` makes it a binding's name, which opens one level more
-abbrev pub named : List ℕ → Bool → (Answer → One) → Token → Answer → One
-named s deeper sub t end = got (symbolTree (nameOf s t)) end
-named s deeper sub t (refused n a) = got (symbolTree (nameOf s t)) (refused n a)
-named s deeper sub t (is u) =
-    ifAt (u .kind) (cond deeper (bound s (nameOf s t) (sub (after s u))) (no tooDeep (t .start))) (got (symbolTree (nameOf s t)) (is u))
+abbrev pub named : List ℕ → Bool → (Answer → Result One) → Token → Answer → Result One
+named s deeper sub t (ok end) = ok (got (symbolTree (nameOf s t)) (ok end))
+named s deeper sub t (refused n a) = ok (got (symbolTree (nameOf s t)) (refused n a))
+named s deeper sub t (ok (is u)) =
+    ifAt (u .kind) (cond deeper (andThen (sub (after s u)) (bound s (nameOf s t))) (refused tooDeep (t .start))) (ok (got (symbolTree (nameOf s t)) (ok (is u))))
 
 -- the tree that the token t begins; `deeper` says if one more list or binding may be open, and `sub` and `items` read one level further in
-abbrev pub begun : List ℕ → Bool → (Answer → One) → (Answer → Many) → Token → Kind → One
-begun s deeper sub items t lparen = cond deeper (listed s t (items (after s t))) (no tooDeep (t .start))
-begun s deeper sub items t rparen = closed t
-begun s deeper sub items t at-sign = no noSymbol (t .start)
+abbrev pub begun : List ℕ → Bool → (Answer → Result One) → (Answer → Result Many) → Token → Kind → Result One
+begun s deeper sub items t lparen = cond deeper (andThen (items (after s t)) (listed s t)) (refused tooDeep (t .start))
+begun s deeper sub items t rparen = ok (closed t)
+begun s deeper sub items t at-sign = refused noSymbol (t .start)
 begun s deeper sub items t symbol = named s deeper sub t (after s t)
-begun s deeper sub items t (int z) = got (integer z) (after s t)
+begun s deeper sub items t (int z) = ok (got (integer z) (after s t))
 
-abbrev pub ofToken : List ℕ → Bool → (Answer → One) → (Answer → Many) → Answer → One
-ofToken s deeper sub items end = ended
-ofToken s deeper sub items (refused n a) = no n a
-ofToken s deeper sub items (is t) = begun s deeper sub items t (t .kind)
+abbrev pub ofToken : List ℕ → Bool → (Answer → Result One) → (Answer → Result Many) → Answer → Result One
+ofToken s deeper sub items (ok end) = ok ended
+ofToken s deeper sub items (refused n a) = refused n a
+ofToken s deeper sub items (ok (is t)) = begun s deeper sub items t (t .kind)
 
 -- what begins with the token at hand, with d lists and bindings still to be opened
-unfoldable pub readTree : List ℕ → ℕ → Answer → One
-readTree s zero a = ofToken s false (λ _. ended) (λ _. none-of 0 0) a
+unfoldable pub readTree : List ℕ → ℕ → Answer → Result One
+readTree s zero a = ofToken s false (λ _. ok ended) (λ _. refused 0 0) a
 readTree s (suc d) a = ofToken s true (readTree s d) (readItems (readTree s d) (suc (length s))) a
 
 -- a file is any number of trees; a `)` with no list open is refused
-pub data File : Type 0 where
-  file : Trees → File
-  refusal : ℕ → ℕ → File
-
-abbrev pub whole : Many → File
-whole (upTo xs t) = refusal noListOpen (t .start)
-whole (toEnd xs) = file xs
-whole (none-of n a) = refusal n a
+abbrev pub whole : Many → Result Trees
+whole (upTo xs t) = refused noListOpen (t .start)
+whole (toEnd xs) = ok xs
 
 -- the trees of a source, or the first refusal in order; a source that is too long is refused by its first token
-unfoldable pub fileOf : List ℕ → File
-fileOf s = whole (readItems (readTree s depthLimit) (suc (length s)) (nextToken s 0))
+unfoldable pub fileOf : List ℕ → Result Trees
+fileOf s = andThen (readItems (readTree s depthLimit) (suc (length s)) (nextToken s 0)) whole

@@ -1,5 +1,5 @@
 pub mod Grammar
 pub mod Reading
-pub mod Sizes
 pub mod Nesting
-pub mod Cases
+pub mod Promised
+pub mod PrivateWalk

@@ -1,29 +1,39 @@
-// What a token begins, in parts: the answers of the two passes, and how a list and a binding are made of their items and their tree.
+// What the routines of the walk answer, flat, for an enum that is handed back goes through memory; and what a token is at a glance.
 use lexer::Lexed;
 use lexer::Token;
-use refusals::Refusal;
 ghost use mathlib.Core.Path.{_≡_};
+ghost use mathlib.Core.Bool.{true, false};
 ghost use Prim.Native.Nat.{_≤_};
-ghost use lib.ListN.{length};
 ghost use Rattle.refusals.specs.Numbers.{sourceLimit};
 ghost use Rattle.lexer.specs.Tokens.{answerOf};
-ghost use Rattle.reader.specs.Sizes.{oneOf, manyOf, not, none-at, bindSize, listSize, signOf, pastOf, countOf, SizeIn, SizesIn, Lexes, Seen};
+ghost use Rattle.reader.specs.PrivateWalk.{signOf, pastOf, Seen};
+ghost use Rattle.reader.specs.declared.parts.Stop.the-variants as stop;
 
-// What begins with a token.
-pub enum OneRead {
-    // A tree: the bytes of its records, and the token after it.
-    Got(usize, Lexed),
-    // A `)`, and its start.
-    Closed(usize),
-    Ended,
-    No(Refusal),
+// A tree, or a refusal.
+pub struct OneRead {
+    pub refused: bool,
+    pub number: u8,
+    // The place past the tree, or the refusal's.
+    pub place: usize,
+    // The bytes of its records.
+    pub size: usize,
 }
 
-// Trees in a row: how many, the bytes of their records, and the start of the `)` that stopped them.
-pub enum ManyRead {
-    UpTo(usize, usize, usize),
-    ToEnd(usize, usize),
-    No(Refusal),
+// What stopped trees in a row.
+pub enum Stop {
+    Close,
+    End,
+    Refusal,
+}
+
+pub struct ManyRead {
+    pub stop: Stop,
+    pub number: u8,
+    // The start of the `)`, or the refusal's place.
+    pub place: usize,
+    // How many trees, and the bytes of their records.
+    pub n: usize,
+    pub size: usize,
 }
 
 // The place past an `@`.
@@ -32,26 +42,69 @@ pub enum Sign {
     Other,
 }
 
-// What a token is to a loop over trees, at a glance: most tokens are names and parens, and need no call to read a tree.
 pub enum Look {
-    // A symbol with no `@` behind it: its start, its length, and the token after it.
-    Name(usize, usize, Lexed),
-    // The starts of `(` and `)`.
-    Open(usize),
+    // A symbol: its start and its length.
+    Name(usize, usize),
+    // The start of a `)`.
     Close(usize),
+    End,
     Other,
 }
 
-pub fn no(number: u8, place: usize) -> OneRead
-    ensures { λ r. ⌜ oneOf r ≡ not number place ⌝ }
+pub fn tree(place: usize, size: usize) -> OneRead
+    ensures { λ r. ⌜ r ≡ record { refused = false; number = 0; place = place; size = size } ⌝ }
 {
-    OneRead::No(Refusal { number, place })
+    OneRead {
+        refused: false,
+        number: 0,
+        place,
+        size,
+    }
 }
 
-pub fn none(number: u8, place: usize) -> ManyRead
-    ensures { λ r. ⌜ manyOf r ≡ none-at number place ⌝ }
+pub fn no_tree(number: u8, place: usize) -> OneRead
+    ensures { λ r. ⌜ r ≡ record { refused = true; number = number; place = place; size = 0 } ⌝ }
 {
-    ManyRead::No(Refusal { number, place })
+    OneRead {
+        refused: true,
+        number,
+        place,
+        size: 0,
+    }
+}
+
+pub fn items(stop: Stop, place: usize, n: usize, size: usize) -> ManyRead
+    ensures { λ r. ⌜ r ≡ record { stop = stop; number = 0; place = place; n = n; size = size } ⌝ }
+{
+    ManyRead {
+        stop,
+        number: 0,
+        place,
+        n,
+        size,
+    }
+}
+
+pub fn no_items(number: u8, place: usize) -> ManyRead
+    ensures { λ r. ⌜ r ≡ record { stop = stop.Refusal; number = number; place = place; n = 0; size = 0 } ⌝ }
+{
+    ManyRead {
+        stop: Stop::Refusal,
+        number,
+        place,
+        n: 0,
+        size: 0,
+    }
+}
+
+// The lesser of two: where the first free byte is, or the end of a room that is too short.
+pub fn least(a: usize, b: usize) -> usize
+    ensures { λ r. ⌜ (r ≤ b) × (a ≤ b → r ≡ a) ⌝ }
+{
+    if a <= b {
+        return a;
+    }
+    b
 }
 
 pub fn sign_of(tok: Lexed) -> Sign
@@ -71,64 +124,29 @@ pub fn sign_of(tok: Lexed) -> Sign
     }
 }
 
-pub fn glance(src: &[u8], tok: Lexed) -> Look
-    requires { ⌜ Lexes (now src) (answerOf tok) ⌝ }
-    ensures { λ r. ⌜ Seen (now (src .entry)) (answerOf tok) r ⌝ }
+// What a token is to a loop over trees. Most are symbols and parens; a `)` or the end stops the loop where no tree is due.
+pub fn glance(tok: Lexed, due: bool) -> Look
+    ensures { λ r. ⌜ Seen (answerOf tok) due r ⌝ }
 {
     match tok {
-        Lexed::End => Look::Other,
+        Lexed::End => {
+            if due {
+                return Look::Other;
+            }
+            Look::End
+        }
         Lexed::Refused(_) => Look::Other,
         Lexed::Token(t, start) => match t {
-            Token::LParen => Look::Open(start),
-            Token::RParen => Look::Close(start),
-            Token::At => Look::Other,
-            Token::Int(_, _) => Look::Other,
-            Token::Symbol(n) => {
-                let next = lexer::next_token(src, start + n);
-                let sign = sign_of(next);
-                match sign {
-                    Sign::Other => Look::Name(start, n, next),
-                    Sign::At(_) => Look::Other,
+            Token::LParen => Look::Other,
+            Token::RParen => {
+                if due {
+                    return Look::Other;
                 }
+                Look::Close(start)
             }
+            Token::At => Look::Other,
+            Token::Symbol(n) => Look::Name(start, n),
+            Token::Int(_, _) => Look::Other,
         },
-    }
-}
-
-pub fn count_of(items: ManyRead) -> usize
-    ensures { λ r. ⌜ r ≡ countOf (manyOf items) ⌝ }
-{
-    match items {
-        ManyRead::UpTo(k, _, _) => k,
-        ManyRead::ToEnd(k, _) => k,
-        ManyRead::No(_) => 0,
-    }
-}
-
-// A list whose `(` stands at `start`, by its items: open at the end, it is refused at its `(`.
-pub fn listed(src: &[u8], start: usize, items: ManyRead) -> OneRead
-    requires { ⌜ SizesIn (manyOf items) ⌝ }
-    ensures { λ r. ⌜ oneOf r ≡ listSize (now (src .entry)) start (manyOf items) ⌝ }
-{
-    match items {
-        ManyRead::UpTo(_, size, at) => {
-            let next = lexer::next_token(src, at + 1);
-            OneRead::Got(size + 10, next)
-        }
-        ManyRead::ToEnd(_, _) => no(refusals::LIST_OPEN, start),
-        ManyRead::No(r) => OneRead::No(r),
-    }
-}
-
-// A binding of a name of n bytes, by what follows its `@`: a `)` or the end is refused there.
-pub fn bound(src: &[u8], n: usize, value: OneRead) -> OneRead
-    requires { ⌜ (n ≤ sourceLimit) × SizeIn (oneOf value) ⌝ }
-    ensures { λ r. ⌜ oneOf r ≡ bindSize (length (now (src .entry))) n (oneOf value) ⌝ }
-{
-    match value {
-        OneRead::Got(size, next) => OneRead::Got(n + 6 + size, next),
-        OneRead::Closed(at) => no(refusals::NO_TREE, at),
-        OneRead::Ended => no(refusals::NO_TREE, src.len()),
-        OneRead::No(r) => OneRead::No(r),
     }
 }

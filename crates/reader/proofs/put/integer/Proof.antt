@@ -1,51 +1,42 @@
--- `reader::put::integer`: the head, then the payload into the rest of the buffer.
-use mathlib.Core.Path.{_≡_}
+-- `reader::put::integer`: its 16 bytes are made in a room of their own.
+use mathlib.Core.Path.{_≡_, ap, sym, _∙_}
 use native.Mathlib.Omega.{arith}
-use lib.ListN.{length}
+use borrow.Author.Needs.{needs}
+use lib.ListN.{length, replicate, drop-of-length-le}
+use mathlib.Core.List.{List, _++_, append-nil}
+use Prim.Native.Nat.{ℕ}
+use Rattle.lists.specs.Over.{fitted}
+use Rattle.lists.proofs.Blocks.{fitted-over}
 use Rattle.wide.specs.Value.{value}
 use Rattle.wide.specs.Bytes.{wideBytes}
 use Rattle.wide.proofs.Numbers.{wide-length}
-use Rattle.reader.proofs.Putting.{headed-fits}
-use borrow.Author.Needs.{needs}
+use Rattle.records.specs.Records.{record-of}
+use Rattle.table.specs.Kinds.{integerKind}
 use Rattle.reader.proofs.put.integer.Statement.{statement}
 use Rattle.reader.proofs.put.integer.Tie as tie
 use Rattle.reader.proofs.put.integer.Reads as reads
 use Rattle.reader.proofs.put.integer.Lts as lts
-use Rattle.reader.proofs.put.head.Reads as head-reads
+use Rattle.records.proofs.put.Reads as put-reads
 use Rattle.wide.proofs.put_wide.Reads as put-wide-reads
 
-head-requires : tie.Need-head-requires
-head-requires c κs = search needs
-
-sub-put-wide : tie.Need-sub-put-wide
-sub-put-wide c = search needs
-
-part-put-wide-start : tie.Need-part-put-wide-start
-part-put-wide-start c = search needs
-
-part-put-wide-end : tie.Need-part-put-wide-end
-part-put-wide-end c = search needs
-
-put-wide-requires : tie.Need-put-wide-requires
-put-wide-requires c κs = search needs
-
-same-length : tie.Need-same-length
-same-length c = search needs
+-- a room of just as many bytes holds them and nothing else
+just : (o b : List ℕ) → length b ≡ length o → fitted o b ≡ o
+just o b e = fitted-over o b (omega arith) ∙ ap (λ (r : List ℕ). o ++ r) (drop-of-length-le b {i = length o} (omega arith)) ∙ append-nil o
 
 returns : tie.Need-returns
 returns c =
-    let p = c .before .before .before .before .before .before in
-    let k : length (wideBytes (value (c .before .before .before .before .before .before .before .before .before .args .w))) ≡ 16 = wide-length (value (c .before .before .before .before .before .before .before .before .before .args .w)) in
-    headed-fits 22 2 _ _ _ _ (omega (arith, k)) (omega arith) (p .head .ensures) (c .before .before .put-wide .ensures)
+    let w = c .before .before .before .before .before .before in
+    let a = w .before .before .before .args in
+    let e : w .put-wide .last .1 .0 ≡ wideBytes (value (a .w)) = w .put-wide .ensures ∙ just (wideBytes (value (a .w))) (replicate 16 0) (sym (wide-length (value (a .w)))) in
+    c .before .before .put .ensures ∙ ap (λ (r : List ℕ). fitted (record-of integerKind r) (a .buf .now)) e
 
 pub integer-spec : {M : Type 1} → statement M
 integer-spec =
     tie.close
     (tie.spec
-    head-requires
-    sub-put-wide
-    part-put-wide-start
-    part-put-wide-end
-    put-wide-requires
-    same-length
+    (λ c. search needs)
+    (λ c κs. search needs)
+    (λ c. search needs)
+    (λ c κs. search needs)
+    (λ c. search needs)
     returns)

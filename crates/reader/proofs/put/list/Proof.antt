@@ -1,50 +1,47 @@
--- `reader::put::list`: the head, then the payload into the rest of the buffer.
-use mathlib.Core.Path.{_≡_}
+-- `reader::put::list`: the head, then the count in the rest of the room.
+use mathlib.Core.Path.{refl, ap, _∙_}
 use native.Mathlib.Omega.{arith}
+use borrow.Author.Needs.{needs}
 use lib.ListN.{length}
+use Prim.Native.Nat.{_≤_}
+use Prim.Native.Nat.{ℕ}
+use mathlib.Core.Path.{_≡_}
+use Rattle.lists.proofs.Blocks.{fits-in, no-room}
 use Rattle.wide.specs.Bytes.{le}
 use Rattle.wide.proofs.Numbers.{le-length}
-use Rattle.reader.proofs.Putting.{headed-fits}
-use borrow.Author.Needs.{needs}
+use Rattle.records.specs.Records.{record-of}
+use Rattle.records.proofs.Heads.{length-record}
+use Rattle.records.proofs.Putting.{with-head}
+use Rattle.table.specs.Kinds.{listKind, listLen}
 use Rattle.reader.proofs.put.list.Statement.{statement}
 use Rattle.reader.proofs.put.list.Tie as tie
 use Rattle.reader.proofs.put.list.Reads as reads
 use Rattle.reader.proofs.put.list.Lts as lts
-use Rattle.reader.proofs.put.head.Reads as head-reads
+use Rattle.records.proofs.put_head.Reads as put-head-reads
 use Rattle.wide.proofs.put_u32.Reads as put-u32-reads
 
-head-requires : tie.Need-head-requires
-head-requires c κs = search needs
-
-sub-put-u32 : tie.Need-sub-put-u32
-sub-put-u32 c = search needs
-
-part-put-u32-start : tie.Need-part-put-u32-start
-part-put-u32-start c = search needs
-
-part-put-u32-end : tie.Need-part-put-u32-end
-part-put-u32-end c = search needs
-
-put-u32-requires : tie.Need-put-u32-requires
-put-u32-requires c κs = search needs
-
-same-length : tie.Need-same-length
-same-length c = search needs
+size : (n : ℕ) → length (record-of listKind (le 4 n)) ≡ listLen
+size n = length-record listKind (le 4 n) ∙ omega (arith, le-length 4 n)
 
 returns : tie.Need-returns
-returns c =
+returns c = no-room (record-of listKind (le 4 (c .before .before .args .n))) _ (omega (arith, size (c .before .before .args .n)))
+
+returns-2 : tie.Need-returns-2
+returns-2 c =
     let p = c .before .before .before .before .before .before in
-    let k : length (le 4 (c .before .before .before .before .before .before .before .before .before .args .n)) ≡ 4 = le-length 4 _ in
-    headed-fits 10 4 _ _ _ _ (omega (arith, k)) (omega arith) (p .head .ensures) (c .before .before .put-u32 .ensures)
+    let a = p .before .before .before .before .args in
+    fits-in (record-of listKind (le 4 (a .n))) _ _ (omega (arith, size (a .n)))
+    (with-head listKind listLen (le 4 (a .n)) (a .buf .now) _ _ (omega (arith, le-length 4 (a .n))) (omega arith) (p .put-head .ensures) (c .before .before .put-u32 .ensures))
 
 pub list-spec : {M : Type 1} → statement M
 list-spec =
     tie.close
     (tie.spec
-    head-requires
-    sub-put-u32
-    part-put-u32-start
-    part-put-u32-end
-    put-u32-requires
-    same-length
-    returns)
+    returns
+    (λ c κs. search needs)
+    (λ c. search needs)
+    (λ c. search needs)
+    (λ c. search needs)
+    (λ c κs. search needs)
+    (λ c. search needs)
+    returns-2)

@@ -1,56 +1,58 @@
--- `reader::put::name`: the head, then the name into the rest of the buffer.
-use Prim.Native.Nat.{ℕ, _+_}
-use mathlib.Core.Path.{_≡_, ap}
+-- `reader::put::name`: what is put into the rest of the room stands behind what it held before.
+use mathlib.Core.Path.{_≡_, refl, ap, sym, _∙_}
+use mathlib.Core.List.{List, [], _++_, append-nil}
+use Prim.Native.Nat.{ℕ, _+_, _-_, _≤_}
 use native.Mathlib.Omega.{arith}
-use lib.ListN.{length, take, drop, length-drop}
-use lib.Seq.{length-take-le}
-use Rattle.reader.proofs.Putting.{headed}
 use borrow.Author.Needs.{needs}
+use borrow.Rule.Slice.PartMut.{putMid}
+use lib.ListN.{length, take, drop, length-drop, drop-of-length-le}
+use lib.Seq.{length-take-le}
+use Rattle.lists.specs.Over.{over, fitted}
+use Rattle.lists.proofs.Blocks.{fitted-over}
+use Rattle.lists.proofs.Writing.{part-drop, part-length}
+use Rattle.lists.proofs.Stands.{part-size}
+use Rattle.records.specs.Records.{headLen, record-of}
+use Rattle.records.proofs.Heads.{length-record}
 use Rattle.reader.proofs.put.name.Statement.{statement}
 use Rattle.reader.proofs.put.name.Tie as tie
 use Rattle.reader.proofs.put.name.Reads as reads
 use Rattle.reader.proofs.put.name.Lts as lts
-use Rattle.reader.proofs.put.bytes.Reads as bytes-reads
-use Rattle.reader.proofs.put.head.Reads as head-reads
+use Rattle.records.proofs.put.Reads as put-reads
 
-add-head : tie.Need-add-head
-add-head c = search needs
-
-head-requires : tie.Need-head-requires
-head-requires c κs = search needs
-
-sub-bytes : tie.Need-sub-bytes
-sub-bytes c = search needs
-
-part-bytes-start : tie.Need-part-bytes-start
-part-bytes-start c = search needs
-
-part-bytes-end : tie.Need-part-bytes-end
-part-bytes-end c = search needs
-
-bytes-requires : tie.Need-bytes-requires
-bytes-requires c κs = search needs
-
-same-length : tie.Need-same-length
-same-length c = search needs
+behind : (o b ys : List ℕ) (p : ℕ) → ys ≡ fitted o (take (length b - p) (drop p b)) → p + length o ≤ length b
+    → putMid p (length b - p) b ys ≡ take p b ++ over o (drop p b)
+behind o b ys p e h =
+    let nothing : drop (length b - p) (drop p b) ≡ [] = drop-of-length-le (drop p b) {i = length b - p} (simp length-drop (omega arith)) in
+    let y : ys ≡ over o (drop p b) =
+    e ∙ fitted-over o (take (length b - p) (drop p b)) (rw (part-length p b) (omega arith)) ∙ ap (over o) (part-drop p b) in
+    rw (nothing, append-nil) (ap (λ (r : List ℕ). take p b ++ r) y)
 
 returns : tie.Need-returns
-returns c =
-    let p = c .before .before .before .before .before .before in
-    let a = p .before .before .before .before in
-    let k : length (take (a .args .n) (drop (a .args .start) (a .args .src .now))) ≡ a .args .n =
-    length-take-le (a .args .n) (drop (a .args .start) (a .args .src .now)) (rw (length-drop (a .args .start) (a .args .src .now)) (omega (arith, a .pre .0))) in
-    headed _ _ _ _ _ _ (ap (λ (j : ℕ). j + 6) k) (a .pre .1) (p .head .ensures) (c .before .before .bytes .ensures)
+returns c h =
+    let a = c .before .before .before .before .before .before .before .before .args in
+    behind (record-of (a .kind) (take (a .end - a .start) (drop (a .start) (a .src .now)))) (a .buf .now) _ (a .at) (c .before .before .put .ensures) h
+
+returns-2 : tie.Need-returns-2
+returns-2 c h =
+    let a = c .before .before .before in
+    let n = length-record (a .args .kind) (take (a .args .end - a .args .start) (drop (a .args .start) (a .args .src .now))) in
+    let k = part-size (a .args .src .now) (a .args .start) (a .args .end - a .args .start) (omega (arith, a .pre)) in
+    absurd (omega (arith, c .if1 .left))
 
 pub name-spec : {M : Type 1} → statement M
 name-spec =
     tie.close
     (tie.spec
-    add-head
-    head-requires
-    sub-bytes
-    part-bytes-start
-    part-bytes-end
-    bytes-requires
-    same-length
-    returns)
+    (λ c. search needs)
+    (λ c. search needs)
+    (λ c. search needs)
+    (λ c. search needs)
+    (λ c. search needs)
+    (λ c. search needs)
+    (λ c. search needs)
+    (λ c. search needs)
+    (λ c. search needs)
+    (λ c κs. search needs)
+    (λ c. search needs)
+    returns
+    returns-2)

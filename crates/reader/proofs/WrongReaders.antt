@@ -4,25 +4,27 @@ use mathlib.Core.List.{List, [], _∷_}
 use Prim.Native.Nat.{ℕ}
 use native.Mathlib.Omega.{arith}
 use lib.ListN.{length, replicate, getD}
+use Rattle.refusals.specs.Result.{Result, ok, refused}
 use Rattle.classes.specs.Classes.{classOf}
 use Rattle.wide.specs.Bytes.{le}
 use Rattle.lexer.specs.Lexing.{skip, symbolEnd, lexIn, nextToken}
-use Rattle.table.specs.Trees.{records, record-of}
+use Rattle.records.specs.Records.{record-of}
+use Rattle.table.specs.Trees.{records}
 use Rattle.reader.specs.Grammar.{readItems, readTree, fileOf}
-use Rattle.reader.specs.Reading.{Read, table, no, reading, readInto}
+use Rattle.reader.specs.Reading.{reading, readInto}
 
 -- `(a)`
 unfoldable sample : List ℕ
 sample = 40 ∷ 97 ∷ 41 ∷ []
 
-sample-read : reading sample 17 ≡ table 17
+sample-read : reading sample 17 ≡ ok 17
 unfolding sample reading fileOf readItems readTree records record-of le nextToken lexIn skip symbolEnd classOf
 sample-read = refl
 
 -- whatever number and place it gives
-pub refuses-all : (n p : List ℕ → ℕ) → ((s : List ℕ) (k : ℕ) → no (n s) (p s) ≡ reading s k) → ⊥
+pub refuses-all : (n p : List ℕ → ℕ) → ((s : List ℕ) (k : ℕ) → refused (n s) (p s) ≡ reading s k) → ⊥
 refuses-all n p h =
-    let e : no (n sample) (p sample) ≡ table 17 = h sample 17 ∙ sample-read in
+    let e : _≡_ {A = Result ℕ} (refused (n sample) (p sample)) (ok 17) = h sample 17 ∙ sample-read in
     let z : _≡_ {A = ℕ} 0 1 = cc in omega arith
 
 pub untouched-room : ((s t : List ℕ) → t ≡ readInto s t) → ⊥

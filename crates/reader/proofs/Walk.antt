@@ -1,0 +1,350 @@
+-- The walk over trees in a row: of the whole, what is read and what is left; what is written; and what each turn makes of them. Assumes nothing.
+use mathlib.Core.Path.{_≡_, refl, ap, sym, subst, subst⁻¹, _∙_}
+use mathlib.Core.Bool.{Bool, true, false}
+use mathlib.Core.List.{List, [], _++_, append-assoc, append-nil}
+use Prim.Native.Nat.{ℕ, zero, suc, _+_, _*_, _-_, _≤_, _<_}
+use native.Mathlib.Omega.{arith}
+use lib.Dec.{ltb}
+use lib.ListN.{length, take, drop, length-append}
+use lib.Seq.{take-at, drop-at, drop-drop}
+use borrow.Author.Tests.{lt-ltb}
+use borrow.Rule.Slice.PartMut.{putMid}
+use Rattle.refusals.specs.Numbers.{sourceLimit, tableLimit, tooDeep}
+use Rattle.refusals.specs.Result.{Result, ok, refused, andThen}
+use Rattle.lists.specs.Over.{over}
+use Rattle.lists.proofs.Writing.{Wrote, wrote-none, wrote-length, wrote-lent, part-length}
+use Rattle.lexer.specs.Tokens.{Kind, lparen, rparen, at-sign, symbol, int, Token, token, past, Answer, end, is}
+use Rattle.lexer.specs.Lexing.{nextToken}
+use Rattle.lexer.proofs.Within.{limited}
+use Rattle.records.specs.Records.{headLen, record-of}
+use Rattle.records.proofs.Heads.{length-record}
+use Rattle.table.specs.Kinds.{symbolKind, bindingKind}
+use Rattle.table.specs.Trees.{Tree, Trees, symbol as symbolTree, binding, none, more, count, records, recordsOf}
+use Rattle.reader.specs.Grammar.{One, got, closed, ended, Many, upTo, toEnd, cons, onward, bound, nameOf, after, readItems, readTree}
+use Rattle.reader.specs.PrivateWalk.{Lexes, due, Filled, FilledFrom, TreeTold, ItemsTold, LeftKind, LeftOver, Seen, signOf, pastOf}
+use Rattle.reader.specs.declared.parts.Look.{Look}
+use Rattle.reader.specs.declared.parts.Stop.the-variants as stop
+use Rattle.reader.specs.declared.parts.Sign.the-variants.{At, Other}
+use Rattle.reader.proofs.Derivation.{OneIs, tree-is}
+use Rattle.reader.proofs.Bounds.{place, weigh, Spans, spans, name-spans, name-length, past-top, weigh-top}
+use Rattle.reader.proofs.Begins.{read-end, read-rparen, read-name, read-bind, read-bind-deep}
+
+-- ---- what is left
+
+-- of the whole w, k trees whose records are o stand before y
+abbrev Before : ℕ → List ℕ → Result Many → Result Many → Type 0
+Before k o w (ok (upTo xs t)) = (ys : Trees) × (w ≡ ok (upTo ys t)) × (count ys ≡ k + count xs) × (recordsOf ys ≡ o ++ recordsOf xs)
+Before k o w (ok (toEnd xs)) = (ys : Trees) × (w ≡ ok (toEnd ys)) × (count ys ≡ k + count xs) × (recordsOf ys ≡ o ++ recordsOf xs)
+Before k o w (refused m p) = w ≡ refused m p
+
+before-all : (w : Result Many) → Before 0 [] w w
+before-all (ok (upTo xs t)) = (xs, refl, omega arith, refl)
+before-all (ok (toEnd xs)) = (xs, refl, omega arith, refl)
+before-all (refused m p) = refl
+
+before-more : (k : ℕ) (o : List ℕ) (w : Result Many) (x : Tree) (y : Result Many) → Before k o w (andThen y (cons x)) → Before (k + 1) (o ++ records x) w y
+unfolding records
+before-more k o w x (ok (upTo xs t)) h = (h .0, h .1, omega (arith, h .2), h .3 ∙ sym (append-assoc o (records x) (recordsOf xs)))
+before-more k o w x (ok (toEnd xs)) h = (h .0, h .1, omega (arith, h .2), h .3 ∙ sym (append-assoc o (records x) (recordsOf xs)))
+before-more k o w x (refused m p) h = h
+
+-- the same, where y begins with the token at hand and f reads on behind it; o may end with the names of bindings whose tree y is
+abbrev Left : ℕ → List ℕ → Result Many → (Answer → Result Many) → Result One → Type 0
+Left k o w f (ok (got x a)) = Before (k + 1) (o ++ records x) w (f a)
+Left k o w f (ok (closed t)) = (ys : Trees) × (w ≡ ok (upTo ys t)) × (count ys ≡ k) × (recordsOf ys ≡ o)
+Left k o w f (ok ended) = (ys : Trees) × (w ≡ ok (toEnd ys)) × (recordsOf ys ≡ o)
+Left k o w f (refused m p) = w ≡ refused m p
+
+left-of : (k : ℕ) (o : List ℕ) (w : Result Many) (f : Answer → Result Many) (y : Result One) → Before k o w (andThen y (onward f)) → Left k o w f y
+unfolding records
+left-of k o w f (ok (got x a)) h = before-more k o w x (f a) h
+left-of k o w f (ok (closed t)) h = (h .0, h .1, omega (arith, h .2), h .3 ∙ append-nil o)
+left-of k o w f (ok ended) h = (h .0, h .1, h .3 ∙ append-nil o)
+left-of k o w f (refused m p) h = h
+
+left-bound : (k : ℕ) (o : List ℕ) (w : Result Many) (f : Answer → Result Many) (s n : List ℕ) (y : Result One) → Left k o w f (andThen y (bound s n))
+    → Left k (o ++ record-of bindingKind n) w f (andThen y (due s))
+unfolding records
+left-bound k o w f s n (ok (got x a)) h =
+    subst (λ (r : List ℕ). Before (k + 1) r w (f a)) (sym (append-assoc o (record-of bindingKind n) (records x))) h
+left-bound k o w f s n (ok (closed t)) h = h
+left-bound k o w f s n (ok ended) h = h
+left-bound k o w f s n (refused m p) h = h
+
+-- where a tree is due, a `)` or the end is refused
+abbrev pub awaited : List ℕ → Bool → Result One → Result One
+awaited s true y = andThen y (due s)
+awaited s false y = y
+
+awaited-got : (s : List ℕ) (d : Bool) (x : Tree) (a : Answer) → awaited s d (ok (got x a)) ≡ ok (got x a)
+awaited-got s true x a = refl
+awaited-got s false x a = refl
+
+awaited-refused : (s : List ℕ) (d : Bool) (m p : ℕ) → awaited s d (refused m p) ≡ refused m p
+awaited-refused s true m p = refl
+awaited-refused s false m p = refl
+
+-- a binding is got or refused
+awaited-bound : (s : List ℕ) (d : Bool) (n : List ℕ) (y : Result One) → awaited s d (andThen y (bound s n)) ≡ andThen y (bound s n)
+awaited-bound s false n y = refl
+awaited-bound s true n (ok (got x a)) = refl
+awaited-bound s true n (ok (closed t)) = refl
+awaited-bound s true n (ok ended) = refl
+awaited-bound s true n (refused m p) = refl
+
+-- ---- what is written
+
+-- bytes were put into the rest of the room from r, its first free byte where the room is long enough
+wrote-rest : {o b₀ b : List ℕ} {w : ℕ} → (w ≤ length b₀ → Wrote o b₀ b w) → length b ≡ length b₀ → (o′ ys : List ℕ) (n r : ℕ) → (w ≤ length b → r ≡ w)
+    → n ≡ length o′ → Filled o′ (take (length b - r) (drop r b)) ys → w + n ≤ length b₀ → Wrote (o ++ o′) b₀ (putMid r (length b - r) b ys) (w + n)
+wrote-rest {o} {b₀} {b} {w} h k o′ ys n r er en f l =
+    let e : r ≡ w = er (omega arith) in
+    let there : Filled o′ (take (length b - w) (drop w b)) ys → Wrote (o ++ o′) b₀ (putMid w (length b - w) b ys) (w + n) =
+    λ g. wrote-lent (h (omega arith)) o′ ys n (sym en) l (g (rw (part-length w b) (omega arith))) in
+    subst⁻¹ (λ (j : ℕ). Filled o′ (take (length b - j) (drop j b)) ys → Wrote (o ++ o′) b₀ (putMid j (length b - j) b ys) (w + n)) e there f
+
+wrote-from : {o b₀ b : List ℕ} {w : ℕ} → (w ≤ length b₀ → Wrote o b₀ b w) → length b ≡ length b₀ → (o′ b′ : List ℕ) → FilledFrom w o′ b b′
+    → w + length o′ ≤ length b₀ → Wrote (o ++ o′) b₀ b′ (w + length o′)
+wrote-from {o} {b₀} {b} {w} h k o′ b′ f l =
+    let m = h (omega arith) in
+    let front : take w b ≡ o = ap (take w) (m .holds) ∙ take-at o (drop (length o) b₀) w (m .size) in
+    let back : drop w b ≡ drop w b₀ = ap (drop w) (m .holds) ∙ drop-at o (drop (length o) b₀) w (m .size) ∙ ap (λ (j : ℕ). drop j b₀) (m .size) in
+    record {
+      size = simp length-append (omega (arith, m .size));
+      within = l;
+      holds = f (omega arith) ∙ rw (front, back) (ap (λ (r : List ℕ). o ++ (o′ ++ r)) (drop-drop (length o′) w b₀)
+          ∙ rw (length-append o o′, m .size) (sym (append-assoc o o′ (drop (w + length o′) b₀))));
+    }
+
+-- ---- the turns
+
+pub got-spans : (s : List ℕ) (d : ℕ) (a b : Answer) (x : Tree) → Lexes s a → readTree s d a ≡ ok (got x b) → Spans s a b (length (records x))
+got-spans s d a b x h e = spans x s d a b h (subst (OneIs s d a) e (tree-is s d a))
+
+-- the token at hand is a, j bindings wait for their tree, n trees are read, and with the names of those bindings their records are o
+pub record Going (s : List ℕ) (depth : ℕ) (w : Result Many) (a₀ : Answer) (b₀ : List ℕ) (a : Answer) (j n size : ℕ) (b : List ℕ) : Type 0 where
+  pub lexes : Lexes s a
+  pub on : n + place (length s) a₀ ≤ place (length s) a
+  pub deep : j ≤ depth
+  pub weighs : 2 * size + weigh (length s) a₀ ≤ weigh (length s) a
+  pub o : List ℕ
+  pub size-is : length o ≡ size
+  pub wrote : size ≤ length b₀ → Wrote o b₀ b size
+  pub same : length b ≡ length b₀
+  pub left : Left n o w (readItems (readTree s depth) (length s - n)) (awaited s (ltb 0 j) (readTree s (depth - j) a))
+
+pub starts : (s : List ℕ) (depth : ℕ) (a : Answer) (b : List ℕ) → Lexes s a
+    → Going s depth (readItems (readTree s depth) (suc (length s)) a) a b a 0 0 0 b
+unfolding readItems
+starts s depth a b h =
+    let f : Answer → Result One = readTree s depth in
+    let e : length s - 0 ≡ length s = omega arith in
+    let d : depth - 0 ≡ depth = omega arith in
+    record {
+      lexes = h;
+      on = omega arith;
+      deep = omega arith;
+      weighs = omega arith;
+      o = [];
+      size-is = refl;
+      wrote = λ _. wrote-none b;
+      same = refl;
+      left = rw (e, d) (left-of 0 [] (readItems f (suc (length s)) a) (readItems f (length s)) (f a) (before-all (readItems f (suc (length s)) a)));
+    }
+
+module _ {s : List ℕ} {depth : ℕ} {w : Result Many} {a₀ : Answer} {b₀ : List ℕ} {a : Answer} {j n size : ℕ} {b : List ℕ} (g : Going s depth w a₀ b₀ a j n size b) where
+  abbrev here : Result One
+  here = awaited s (ltb 0 j) (readTree s (depth - j) a)
+
+  -- the bytes read so far, in a source that is not too long
+  pub size-top : length s ≤ sourceLimit → size ≤ tableLimit
+  size-top h = omega (arith, g .weighs, weigh-top s a (g .lexes))
+
+  -- a tree was read, and its records stand in the room
+  pub tree-turn : (x : Tree) (c : Answer) (k : ℕ) (b′ : List ℕ) → here ≡ ok (got x c) → Spans s a c (length (records x)) → k ≡ length (records x)
+      → (size + k ≤ length b₀ → Wrote (g .o ++ records x) b₀ b′ (size + k)) → length b′ ≡ length b₀ → Going s depth w a₀ b₀ c 0 (n + 1) (size + k) b′
+  unfolding readItems
+  tree-turn x c k b′ e q ek m l =
+      let f : Answer → Result One = readTree s depth in
+      let one : length s - n ≡ suc (length s - (n + 1)) = omega (arith, q .on, q .top, g .on) in
+      let d : depth - 0 ≡ depth = omega arith in
+      let h : Before (n + 1) (g .o ++ records x) w (readItems f (length s - n) c) =
+      subst (Left n (g .o) w (readItems f (length s - n))) e (g .left) in
+      record {
+        lexes = q .lexes;
+        on = omega (arith, q .on, g .on);
+        deep = omega arith;
+        weighs = omega (arith, q .size, g .weighs);
+        o = g .o ++ records x;
+        size-is = length-append (g .o) (records x) ∙ omega (arith, g .size-is);
+        wrote = m;
+        same = l;
+        left = rw d (left-of (n + 1) (g .o ++ records x) w (readItems f (length s - (n + 1))) (f c)
+            (subst (λ (i : ℕ). Before (n + 1) (g .o ++ records x) w (readItems f i c)) one h));
+      }
+
+  -- what was awaited is refused
+  pub refused-turn : (m p : ℕ) → here ≡ refused m p → w ≡ refused m p
+  refused-turn m p e = subst (Left n (g .o) w (readItems (readTree s depth) (length s - n))) e (g .left)
+
+  -- the records of trees in a row are those that were written
+  filled : (ys : Trees) → recordsOf ys ≡ g .o → Filled (recordsOf ys) b₀ b
+  filled ys e l = g .wrote (omega (arith, ap length e, g .size-is)) .holds ∙ ap (λ (r : List ℕ). over r b₀) (sym e)
+
+  pub close-turn : (p : ℕ) → a ≡ ok (is (token rparen p 1)) → ltb 0 j ≡ false → ItemsTold w stop.Close 0 p n size b₀ b
+  close-turn p e f =
+      let h : here ≡ ok (closed (token rparen p 1)) =
+      ap (λ (d : Bool). awaited s d (readTree s (depth - j) a)) f ∙ ap (readTree s (depth - j)) e ∙ read-rparen s (depth - j) (token rparen p 1) refl in
+      let k = subst (Left n (g .o) w (readItems (readTree s depth) (length s - n))) h (g .left) in
+      (k .0, token rparen p 1, k .1, refl, sym (k .2), sym (ap length (k .3) ∙ g .size-is), filled (k .0) (k .3))
+
+  pub end-turn : (p : ℕ) → a ≡ ok end → ltb 0 j ≡ false → ItemsTold w stop.End 0 p n size b₀ b
+  end-turn p e f =
+      let h : here ≡ ok ended =
+      ap (λ (d : Bool). awaited s d (readTree s (depth - j) a)) f ∙ ap (readTree s (depth - j)) e ∙ read-end s (depth - j) in
+      let k = subst (Left n (g .o) w (readItems (readTree s depth) (length s - n))) h (g .left) in
+      (k .0, k .1, sym (ap length (k .2) ∙ g .size-is), filled (k .0) (k .2))
+
+  -- the token is a symbol of m bytes, and c the token after it
+  module _ (p m : ℕ) (e : a ≡ ok (is (token symbol p m))) where
+    abbrev its : List ℕ
+    its = nameOf s (token symbol p m)
+
+    its-lexes : Lexes s (ok (is (token symbol p m)))
+    its-lexes = subst (Lexes s) e (g .lexes)
+
+    pub its-end : p + m ≤ length s
+    its-end = past-top s (ok (is (token symbol p m))) its-lexes
+
+    pub its-small : length s ≤ sourceLimit
+    its-small = limited s (its-lexes .place) (token symbol p m) (its-lexes .gives)
+
+    its-length : (k : ℕ) → m + headLen ≡ length (record-of k its)
+    its-length k = sym (length-record k its ∙ ap (λ (i : ℕ). i + headLen) (name-length s (token symbol p m) its-end))
+
+    -- its record, as the code puts it
+    its-record : (k : ℕ) (b′ : List ℕ) → FilledFrom size (record-of k (take (p + m - p) (drop p s))) b b′
+        → size + (m + headLen) ≤ length b₀ → Wrote (g .o ++ record-of k its) b₀ b′ (size + (m + headLen))
+    its-record k b′ f =
+        let d : p + m - p ≡ m = omega arith in
+        subst⁻¹ (λ (i : ℕ). size + i ≤ length b₀ → Wrote (g .o ++ record-of k its) b₀ b′ (size + i)) (its-length k)
+        (wrote-from (g .wrote) (g .same) (record-of k its) b′ (subst (λ (i : ℕ). FilledFrom size (record-of k (take i (drop p s))) b b′) d f))
+
+    module _ (c : Answer) (ec : c ≡ nextToken s (p + m)) where
+      pub next-small : pastOf c ≤ sourceLimit
+      next-small = omega (arith, its-small, past-top s c (record { place = p + m; gives = sym ec }))
+
+      module _ (eo : signOf c ≡ Other) where
+        alone : readTree s (depth - j) a ≡ ok (got (symbolTree its) c)
+        alone =
+            ap (readTree s (depth - j)) e ∙ read-name s (depth - j) (token symbol p m) refl (ap signOf (sym ec) ∙ eo)
+            ∙ ap (λ (x : Answer). ok (got (symbolTree its) x)) (sym ec)
+
+        pub symbol-spans : Spans s a c (m + headLen)
+        unfolding records
+        symbol-spans = subst⁻¹ (Spans s a c) (its-length symbolKind) (got-spans s (depth - j) a c (symbolTree its) (g .lexes) alone)
+
+        pub symbol-turn : (b′ : List ℕ) → FilledFrom size (record-of symbolKind (take (p + m - p) (drop p s))) b b′ → length b′ ≡ length b
+            → Going s depth w a₀ b₀ c 0 (n + 1) (size + (m + headLen)) b′
+        unfolding records
+        symbol-turn b′ f l =
+            tree-turn (symbolTree its) c (m + headLen) b′ (ap (awaited s (ltb 0 j)) alone ∙ awaited-got s (ltb 0 j) (symbolTree its) c)
+            (got-spans s (depth - j) a c (symbolTree its) (g .lexes) alone) (its-length symbolKind) (its-record symbolKind b′ f) (l ∙ g .same)
+
+      module _ (q : ℕ) (ea : signOf c ≡ At q) where
+        sign : signOf (after s (token symbol p m)) ≡ At q
+        sign = ap signOf (sym ec) ∙ ea
+
+        pub deep-turn : j ≡ depth → w ≡ refused tooDeep p
+        deep-turn f =
+            refused-turn tooDeep p (ap (awaited s (ltb 0 j)) (ap (readTree s (depth - j)) e ∙ read-bind-deep s (depth - j) (token symbol p m) q refl sign (omega arith))
+            ∙ awaited-refused s (ltb 0 j) tooDeep p)
+
+        module _ (c′ : Answer) (e′ : c′ ≡ nextToken s q) where
+          pub bind-spans : Spans s a c′ (m + headLen)
+          bind-spans =
+              subst⁻¹ (Spans s a c′) (its-length bindingKind) (subst⁻¹ (λ (x : Answer). Spans s x c′ (length (record-of bindingKind its))) e
+              (subst⁻¹ (λ (x : Answer). Spans s (ok (is (token symbol p m))) x (length (record-of bindingKind its))) e′
+              (name-spans s (token symbol p m) q its-lexes sign)))
+
+          pub bind-turn : (b′ : List ℕ) → (j ≡ depth → ⊥) → FilledFrom size (record-of bindingKind (take (p + m - p) (drop p s))) b b′ → length b′ ≡ length b
+              → Going s depth w a₀ b₀ c′ (j + 1) n (size + (m + headLen)) b′
+          bind-turn b′ nd f l =
+              let F : Answer → Result Many = readItems (readTree s depth) (length s - n) in
+              let y : Result One = readTree s (depth - j - 1) (nextToken s q) in
+              let r : here ≡ andThen y (bound s its) =
+              ap (awaited s (ltb 0 j)) (ap (readTree s (depth - j)) e ∙ read-bind s (depth - j) (token symbol p m) q refl sign (λ z. nd (omega (arith, g .deep))))
+              ∙ awaited-bound s (ltb 0 j) its y in
+              let h : Left n (g .o ++ record-of bindingKind its) w F (andThen y (due s)) = left-bound n (g .o) w F s its y (subst (Left n (g .o) w F) r (g .left)) in
+              let t : ltb 0 (j + 1) ≡ true = lt-ltb 0 (j + 1) (omega arith) in
+              let dj : depth - (j + 1) ≡ depth - j - 1 = omega arith in
+              record {
+                lexes = bind-spans .lexes;
+                on = omega (arith, bind-spans .on, g .on);
+                deep = omega (arith, g .deep, nd);
+                weighs = omega (arith, bind-spans .size, g .weighs);
+                o = g .o ++ record-of bindingKind its;
+                size-is = length-append (g .o) (record-of bindingKind its) ∙ omega (arith, g .size-is, its-length bindingKind);
+                wrote = its-record bindingKind b′ f;
+                same = l ∙ g .same;
+                left = rw (t, dj, e′) h;
+              }
+
+  -- what the routine for a tree is called on, and what it told
+  module _ (lo : LeftOver (ltb 0 j) a) where
+    over-due : here ≡ andThen (readTree s (depth - j) a) (due s)
+    over-due = by (ltb 0 j) (readTree s (depth - j) a) (tree-is s (depth - j) a) lo
+      where
+        by : (d : Bool) (y : Result One) → OneIs s (depth - j) a y → LeftOver d a → awaited s d y ≡ andThen y (due s)
+        by true y h k = refl
+        by false (ok (got x c)) h k = refl
+        by false (refused m p) h k = refl
+        by false (ok (closed t)) h k =
+            let z = subst (LeftKind false) (h .1) (subst (LeftOver false) (h .0) k) in
+            absurd (let y : _≡_ {A = ℕ} 0 1 = cc in omega arith)
+        by false (ok ended) h k = let z = subst (LeftOver false) h k in absurd (let y : _≡_ {A = ℕ} 0 1 = cc in omega arith)
+
+    module _ (t : Bool) (m p i : ℕ) (b₁ ys : List ℕ) (h : TreeTold s (andThen (readTree s (depth - j) a) (due s)) t m p i b₁ ys) where
+      pub no-tree-turn : t ≡ true → w ≡ refused m p
+      no-tree-turn e = refused-turn m p (over-due ∙ subst (λ (t : Bool). TreeTold s (andThen (readTree s (depth - j) a) (due s)) t m p i b₁ ys) e h)
+
+      module _ (e : t ≡ false) (c : Answer) (ec : c ≡ nextToken s p) where
+        told : (x : Tree) × (andThen (readTree s (depth - j) a) (due s) ≡ ok (got x c)) × (i ≡ length (records x)) × Filled (records x) b₁ ys
+        told =
+            let k = subst (λ (t : Bool). TreeTold s (andThen (readTree s (depth - j) a) (due s)) t m p i b₁ ys) e h in
+            (k .0, k .1 ∙ ap (λ (y : Answer). ok (got (k .0) y)) (sym ec), k .2, k .3)
+
+        told-is : readTree s (depth - j) a ≡ ok (got (told .0) c)
+        told-is = by (readTree s (depth - j) a) (told .1)
+          where
+            by : (y : Result One) → andThen y (due s) ≡ ok (got (told .0) c) → y ≡ ok (got (told .0) c)
+            by (ok (got z d)) e = e
+            by (ok (closed t)) e = absurd (let z : _≡_ {A = ℕ} 0 1 = cc in omega arith)
+            by (ok ended) e = absurd (let z : _≡_ {A = ℕ} 0 1 = cc in omega arith)
+            by (refused m p) e = absurd (let z : _≡_ {A = ℕ} 0 1 = cc in omega arith)
+
+        pub told-spans : Spans s a c i
+        told-spans = subst⁻¹ (Spans s a c) (told .2) (got-spans s (depth - j) a c (told .0) (g .lexes) told-is)
+
+        pub told-turn : (r : ℕ) → b₁ ≡ take (length b - r) (drop r b) → (size ≤ length b → r ≡ size) → length (putMid r (length b - r) b ys) ≡ length b
+            → Going s depth w a₀ b₀ c 0 (n + 1) (size + i) (putMid r (length b - r) b ys)
+        told-turn r eb er l =
+            tree-turn (told .0) c i (putMid r (length b - r) b ys) (over-due ∙ told .1) (got-spans s (depth - j) a c (told .0) (g .lexes) told-is) (told .2)
+            (wrote-rest (g .wrote) (g .same) (records (told .0)) ys i r er (told .2) (subst (λ (x : List ℕ). Filled (records (told .0)) x ys) eb (told .3))) (l ∙ g .same)
+
+-- ---- at the terms that the code has
+
+pub seen-as : (a : Answer) (d : Bool) (x y : Look) → Seen a d x → x ≡ y → Seen a d y
+seen-as a d x y h e = subst (Seen a d) e h
+
+pub left-true : (d : Bool) (a : Answer) → LeftOver d a → LeftOver true a
+left-true d (ok end) h = refl
+left-true d (refused n p) h = tt
+left-true d (ok (is t)) h = by (t .kind) h
+  where
+    by : (k : Kind) → LeftKind d k → LeftKind true k
+    by lparen h = tt
+    by rparen h = refl
+    by at-sign h = tt
+    by symbol h = h
+    by (int z) h = tt
