@@ -21,20 +21,19 @@ use Rattle.lexer.specs.declared.Token.{Token as CodeToken}
 use Rattle.lexer.specs.declared.Token.the-variants as code
 use Rattle.lexer.specs.declared.Lexed.{Lexed}
 use Rattle.lexer.specs.declared.Lexed.the-variants as lexed
-use Rattle.lexer.specs.Tokens.{rparen, Token, past, Answer, end, is, tokenOf, answerOf}
+use Rattle.lexer.specs.Tokens.{Token, past, Answer, is, tokenOf, answerOf}
 use Rattle.lexer.specs.Lexing.{nextToken}
 use Rattle.lexer.proofs.Within.{Shaped, within, limited}
 use Rattle.records.specs.Records.{record-of}
 use Rattle.records.proofs.Heads.{length-record}
 use Rattle.table.specs.Kinds.{integerKind, listKind, integerLen, listLen}
-use Rattle.table.specs.Trees.{Tree, Trees, integer, list, count, records, recordsOf}
-use Rattle.reader.specs.Grammar.{after, One, got, closed, ended, Many, upTo, toEnd, listed, readItems, readTree}
-use Rattle.reader.specs.PrivateWalk.{Lexes, due, Filled, TreeTold, TreeRead, ItemsTold, LeftKind, LeftOver, pastOf}
-use Rattle.reader.specs.declared.parts.OneRead.{OneRead}
+use Rattle.table.specs.Trees.{Trees, integer, list, count, records, recordsOf}
+use Rattle.reader.specs.Grammar.{after, One, got, closed, Many, upTo, toEnd, listed, readItems, readTree}
+use Rattle.reader.specs.PrivateWalk.{Lexes, due, TreeTold, ItemsTold, LeftKind, LeftOver, pastOf}
 use Rattle.reader.specs.declared.parts.Stop.{Stop}
 use Rattle.reader.specs.declared.parts.Stop.the-variants as stop
-use Rattle.reader.proofs.Derivation.{DerivesAll, ManyIs, items-is}
-use Rattle.reader.proofs.Bounds.{place, Spans, SpansAll, spans-all, onward, next-of, past-top, weigh-top}
+use Rattle.reader.proofs.Derivation.{ManyIs, items-is}
+use Rattle.reader.proofs.Bounds.{place, SpansAll, spans-all, onward, past-top, weigh-top}
 use Rattle.reader.proofs.Begins.{read-end, read-refused, read-rparen, read-at, read-int, read-list, read-deep}
 
 -- ---- the token

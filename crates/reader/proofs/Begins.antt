@@ -10,10 +10,9 @@ use Rattle.refusals.specs.Numbers.{noSymbol, tooDeep}
 use Rattle.refusals.specs.Result.{Result, ok, refused, andThen}
 use Rattle.lexer.specs.Tokens.{Kind, lparen, rparen, at-sign, symbol, int, Token, past, Answer, end, is}
 use Rattle.lexer.specs.Lexing.{nextToken}
-use Rattle.table.specs.Trees.{Tree, symbol as symbolTree, integer}
-use Rattle.reader.specs.Grammar.{nameOf, after, One, got, closed, ended, Many, readItems, listed, bound, ifAt, named, begun, ofToken, readTree}
+use Rattle.table.specs.Trees.{symbol as symbolTree, integer}
+use Rattle.reader.specs.Grammar.{nameOf, after, One, got, closed, ended, Many, readItems, listed, bound, ifAt, named, begun, readTree}
 use Rattle.reader.specs.PrivateWalk.{signOf}
-use Rattle.reader.specs.declared.parts.Sign.{Sign}
 use Rattle.reader.specs.declared.parts.Sign.the-variants.{At, Other}
 
 module _ (s : List ℕ) where

@@ -1,6 +1,6 @@
 -- Where what is read ends, and how many bytes its records take: at most 14.5 for each byte of the source, and 7.5 more. Assumes nothing.
-use Prim.Native.Nat.{ℕ, zero, suc, _+_, _*_, _-_, _≤_, _<_}
-use mathlib.Core.Path.{_≡_, refl, sym, ap, subst, subst⁻¹, _∙_}
+use Prim.Native.Nat.{ℕ, _+_, _*_, _-_, _≤_, _<_}
+use mathlib.Core.Path.{_≡_, refl, ap, subst, subst⁻¹, _∙_}
 use mathlib.Core.List.{List, _++_}
 use native.Mathlib.Omega.{arith}
 use lib.IntN.{ℤ}
@@ -10,7 +10,7 @@ use Rattle.refusals.specs.Numbers.{sourceLimit}
 use Rattle.refusals.specs.Result.{ok, refused}
 use Rattle.lexer.specs.Tokens.{Kind, lparen, rparen, at-sign, symbol, int, Token, past, Answer, end, is}
 use Rattle.lexer.specs.Lexing.{nextToken}
-use Rattle.lexer.proofs.Within.{Lies, Shaped, within, limited, apart}
+use Rattle.lexer.proofs.Within.{Lies, within, limited, apart}
 use Rattle.wide.specs.Bytes.{le, wideBytes}
 use Rattle.wide.proofs.Numbers.{le-length, wide-length}
 use Rattle.records.specs.Records.{headLen, record-of}

@@ -2,7 +2,7 @@
 use Prim.Native.Nat.{ℕ}
 use mathlib.Core.Path.{_≡_, refl}
 use mathlib.Core.List.{List, [], _∷_, _++_, map}
-use lib.ListN.{length, replicate}
+use lib.ListN.{replicate}
 use Rattle.refusals.specs.Result.{Result, ok, refused}
 use Rattle.classes.specs.Classes.{classOf, digitOf, literalByte}
 use Rattle.wide.specs.Value.{val, grown, integerOf}

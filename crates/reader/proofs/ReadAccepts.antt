@@ -3,17 +3,16 @@ use mathlib.Core.Path.{_≡_, refl, ap, sym, subst, subst⁻¹, _∙_}
 use mathlib.Core.List.{List}
 use Prim.Native.Nat.{ℕ, zero, suc, _+_, _-_, _≤_, _<_}
 use native.Mathlib.Omega.{arith}
-use lib.IntN.{ℤ}
 use lib.ListN.{length, take, drop}
 use Rattle.refusals.specs.Numbers.{depthLimit}
 use Rattle.refusals.specs.Result.{Result, ok, refused, andThen}
 use Rattle.lexer.specs.Tokens.{Kind, lparen, rparen, at-sign, symbol, int, Token, past, Answer, end, is}
 use Rattle.lexer.specs.Lexing.{nextToken}
-use Rattle.lexer.specs.Streams.{Series, ends, then, tokensOf}
-use Rattle.lexer.specs.BareTokens.{Bare, open-paren, close-paren, at-sign as bare-at, name, number, bareOf, bareTokens}
-use Rattle.table.specs.Trees.{Tree, Trees, symbol as symbolTree, integer, binding, list, none, more, treeTokens, treesTokens, records, Good, Goods}
+use Rattle.lexer.specs.Streams.{Series, ends, then}
+use Rattle.lexer.specs.BareTokens.{Bare, open-paren, close-paren, at-sign as bare-at, name, number, bareOf}
+use Rattle.table.specs.Trees.{Tree, Trees, symbol as symbolTree, integer, binding, list, none, more, treeTokens, treesTokens, Good, Goods}
 use Rattle.reader.specs.Promised.{ReadAccepts}
-use Rattle.reader.specs.Grammar.{nameOf, after, One, got, closed, ended, Many, upTo, toEnd, cons, onward, readItems, listed, bound, ifAt, readTree, whole, fileOf}
+use Rattle.reader.specs.Grammar.{nameOf, after, One, got, Many, upTo, toEnd, cons, onward, readItems, listed, bound, ifAt, readTree, whole, fileOf}
 use Rattle.reader.specs.PrivateWalk.{signOf, Lexes}
 use Rattle.reader.specs.Nesting.{Nested, NestedAll}
 use Rattle.reader.specs.declared.parts.Sign.the-variants.{At, Other}

@@ -2,9 +2,9 @@
 use mathlib.Core.Path.{_≡_, refl, ap, sym, subst, subst⁻¹, _∙_}
 use mathlib.Core.Bool.{Bool, true, false, cond, _&&_}
 use mathlib.Core.List.{List, [], _∷_}
-use Prim.Native.Nat.{ℕ, zero, suc, _+_, _*_, _-_, _^_, _≤_, _<_}
+use Prim.Native.Nat.{ℕ, suc, _+_, _-_, _^_, _≤_, _<_}
 use native.Mathlib.Omega.{arith}
-use lib.Dec.{ltb, lit<}
+use lib.Dec.{ltb}
 use lib.IntN.{ℤ, pos, negsuc}
 use lib.ListN.{length, take, drop, getD, length-drop}
 use lib.Seq.{take-nil}
@@ -18,17 +18,17 @@ use Rattle.classes.specs.Classes.{classOf, symbolFirst, symbolOther}
 use Rattle.classes.specs.declared.Class.{Class}
 use Rattle.classes.specs.declared.Class.the-variants.{Other}
 use Rattle.refusals.specs.Result.{Result, ok, refused, andThen}
-use Rattle.lexer.specs.Tokens.{Kind, symbol, int, Token, past, Answer, end, is}
+use Rattle.lexer.specs.Tokens.{symbol, int, Token, past, Answer, end, is}
 use Rattle.lexer.specs.Lexing.{symbolEnd, lexAt, nextToken}
 use Rattle.lexer.proofs.Within.{Lies, Shaped, within, limited}
 use Rattle.records.specs.Records.{headLen}
-use Rattle.table.specs.Trees.{Tree, Trees, symbol as symbolTree, integer, binding, list, none, more, count, runsOn, isSymbol, InRange, Good, Goods, recordsOf}
+use Rattle.table.specs.Trees.{Tree, Trees, symbol as symbolTree, integer, binding, list, none, more, runsOn, isSymbol, InRange, Good, Goods, recordsOf}
 use Rattle.table.proofs.Whole.{complete}
 use Rattle.reader.specs.Grammar.{nameOf, after, One, Many, upTo, toEnd, onward, readItems, readTree, whole, fileOf}
-use Rattle.reader.specs.Promised.{GoodTable, ReadGood}
+use Rattle.reader.specs.Promised.{ReadGood}
 use Rattle.reader.specs.PrivateWalk.{Lexes}
 use Rattle.reader.proofs.Derivation.{Derives, DerivesAll, ManyIs, items-is}
-use Rattle.reader.proofs.Bounds.{place, weigh, Spans, SpansAll, spans, spans-all, next-of, past-top, place-top, name-length}
+use Rattle.reader.proofs.Bounds.{place, spans, spans-all, next-of, past-top, place-top, name-length}
 use Rattle.reader.proofs.Begins.{read-refused}
 use Rattle.reader.proofs.WholeFiles.{file-by}
 

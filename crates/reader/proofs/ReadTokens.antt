@@ -1,22 +1,21 @@
 -- THEOREM `read-tokens`: the tokens of what is read are the source's tokens in order.
-use mathlib.Core.Path.{_≡_, refl, ap, sym, subst, subst⁻¹, _∙_}
+use mathlib.Core.Path.{_≡_, refl, ap, sym, subst, _∙_}
 use mathlib.Core.List.{List}
-use Prim.Native.Nat.{ℕ, zero, suc, _+_, _-_, _≤_, _<_}
+use Prim.Native.Nat.{ℕ, zero, suc, _+_, _-_, _≤_}
 use native.Mathlib.Omega.{arith}
-use lib.IntN.{ℤ}
 use lib.ListN.{length}
 use Rattle.refusals.specs.Numbers.{depthLimit}
-use Rattle.refusals.specs.Result.{Result, ok, refused, andThen}
+use Rattle.refusals.specs.Result.{ok, refused}
 use Rattle.lexer.specs.Tokens.{Kind, lparen, rparen, at-sign, symbol, int, Token, past, Answer, end, is}
 use Rattle.lexer.specs.Lexing.{nextToken}
 use Rattle.lexer.specs.Streams.{Series, ends, then, onward, tokensFrom, tokensOf}
 use Rattle.lexer.specs.BareTokens.{Bare, open-paren, close-paren, at-sign as bare-at, name, number, bareOf, bareTokens}
 use Rattle.table.specs.Trees.{Tree, Trees, symbol as symbolTree, integer, binding, list, none, more, treeTokens, treesTokens}
 use Rattle.reader.specs.Promised.{ReadTokens}
-use Rattle.reader.specs.Grammar.{nameOf, after, fileOf}
+use Rattle.reader.specs.Grammar.{after}
 use Rattle.reader.specs.PrivateWalk.{Lexes}
 use Rattle.reader.proofs.Derivation.{Derives, DerivesAll}
-use Rattle.reader.proofs.Bounds.{place, Onward, onward as goes-on, next-of, spans, spans-all}
+use Rattle.reader.proofs.Bounds.{place, onward as goes-on, next-of, spans, spans-all}
 use Rattle.reader.proofs.ReadGood.{first-of, file-derived}
 
 -- what the token at hand and those after it say, by at most n more calls

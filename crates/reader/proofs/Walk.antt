@@ -2,7 +2,7 @@
 use mathlib.Core.Path.{_≡_, refl, ap, sym, subst, subst⁻¹, _∙_}
 use mathlib.Core.Bool.{Bool, true, false}
 use mathlib.Core.List.{List, [], _++_, append-assoc, append-nil}
-use Prim.Native.Nat.{ℕ, zero, suc, _+_, _*_, _-_, _≤_, _<_}
+use Prim.Native.Nat.{ℕ, suc, _+_, _*_, _-_, _≤_}
 use native.Mathlib.Omega.{arith}
 use lib.Dec.{ltb}
 use lib.ListN.{length, take, drop, length-append}
@@ -12,14 +12,14 @@ use borrow.Rule.Slice.PartMut.{putMid}
 use Rattle.refusals.specs.Numbers.{sourceLimit, tableLimit, tooDeep}
 use Rattle.refusals.specs.Result.{Result, ok, refused, andThen}
 use Rattle.lists.specs.Over.{over}
-use Rattle.lists.proofs.Writing.{Wrote, wrote-none, wrote-length, wrote-lent, part-length}
-use Rattle.lexer.specs.Tokens.{Kind, lparen, rparen, at-sign, symbol, int, Token, token, past, Answer, end, is}
+use Rattle.lists.proofs.Writing.{Wrote, wrote-none, wrote-lent, part-length}
+use Rattle.lexer.specs.Tokens.{Kind, lparen, rparen, at-sign, symbol, int, token, Answer, end, is}
 use Rattle.lexer.specs.Lexing.{nextToken}
 use Rattle.lexer.proofs.Within.{limited}
 use Rattle.records.specs.Records.{headLen, record-of}
 use Rattle.records.proofs.Heads.{length-record}
 use Rattle.table.specs.Kinds.{symbolKind, bindingKind}
-use Rattle.table.specs.Trees.{Tree, Trees, symbol as symbolTree, binding, none, more, count, records, recordsOf}
+use Rattle.table.specs.Trees.{Tree, Trees, symbol as symbolTree, binding, count, records, recordsOf}
 use Rattle.reader.specs.Grammar.{One, got, closed, ended, Many, upTo, toEnd, cons, onward, bound, nameOf, after, readItems, readTree}
 use Rattle.reader.specs.PrivateWalk.{Lexes, due, Filled, FilledFrom, TreeTold, ItemsTold, LeftKind, LeftOver, Seen, signOf, pastOf}
 use Rattle.reader.specs.declared.parts.Look.{Look}

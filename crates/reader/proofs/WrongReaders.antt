@@ -1,9 +1,9 @@
 -- THEOREMS: wrong readers, refuted on a given source: one that refuses everything, and one that leaves the room untouched.
-use mathlib.Core.Path.{_≡_, refl, ap, sym, _∙_}
+use mathlib.Core.Path.{_≡_, refl, ap, _∙_}
 use mathlib.Core.List.{List, [], _∷_}
 use Prim.Native.Nat.{ℕ}
 use native.Mathlib.Omega.{arith}
-use lib.ListN.{length, replicate, getD}
+use lib.ListN.{replicate, getD}
 use Rattle.refusals.specs.Result.{Result, ok, refused}
 use Rattle.classes.specs.Classes.{classOf}
 use Rattle.wide.specs.Bytes.{le}

@@ -5,7 +5,7 @@ use mathlib.Core.Bool.{Bool, true, false}
 use mathlib.Core.List.{List, _++_}
 use lib.ListN.{length, take, drop}
 use Rattle.refusals.specs.Numbers.{noTree}
-use Rattle.refusals.specs.Result.{Result, ok, refused, andThen}
+use Rattle.refusals.specs.Result.{Result, ok, refused}
 use Rattle.lists.specs.Over.{over}
 use Rattle.lexer.specs.Tokens.{Kind, lparen, rparen, at-sign, symbol, int, Token, token, past, Answer, end, is}
 use Rattle.lexer.specs.Lexing.{nextToken}

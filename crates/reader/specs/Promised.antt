@@ -1,9 +1,8 @@
 -- What is promised of what is read (document 01, 'Trees and their table'): a good table, the source's own tokens, and no source refused that is the text of trees.
-use Prim.Native.Nat.{_≤_}
 use mathlib.Core.Path.{_≡_}
 use mathlib.Core.Bool.{false}
 use mathlib.Core.List.{List}
-use Prim.Native.Nat.{ℕ}
+use Prim.Native.Nat.{ℕ, _≤_}
 use lib.ListN.{length}
 use Rattle.refusals.specs.Numbers.{tableLimit, depthLimit}
 use Rattle.refusals.specs.Result.{ok}

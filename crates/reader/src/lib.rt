@@ -38,6 +38,7 @@ fn read_tree(src: &[u8], tok: Lexed, depth: usize, buf: &mut [u8]) -> OneRead
         Lexed::Token(t, start) => match t {
             Token::RParen => parts::no_tree(refusals::NO_TREE, start),
             Token::At => parts::no_tree(refusals::NO_SYMBOL, start),
+            // Does not come here.
             Token::Symbol(_) => parts::no_tree(refusals::NO_TREE, start),
             Token::Int(w, n) => {
                 put::integer(w, buf);

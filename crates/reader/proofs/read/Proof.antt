@@ -3,10 +3,6 @@ use borrow.Author.Needs.{needs}
 use Rattle.reader.proofs.WholeFiles.{refused-told, close-told, short-told, whole-told}
 use Rattle.reader.proofs.read.Statement.{statement}
 use Rattle.reader.proofs.read.Tie as tie
-use Rattle.reader.proofs.read.Reads as reads
-use Rattle.reader.proofs.read.Lts as lts
-use Rattle.reader.proofs.read_items.Reads as read-items-reads
-use Rattle.reader.proofs.refused.Reads as refused-reads
 
 returns : tie.Need-returns
 returns c =

@@ -4,8 +4,6 @@ use Rattle.lexer.specs.declared.Token.the-variants as code
 use Rattle.reader.proofs.AtHand.{hand, left-token, left-end, left-refused}
 use Rattle.reader.proofs.parts.glance.Statement.{statement}
 use Rattle.reader.proofs.parts.glance.Tie as tie
-use Rattle.reader.proofs.parts.glance.Reads as reads
-use Rattle.reader.proofs.parts.glance.Lts as lts
 
 returns : tie.Need-returns
 returns c = left-end _ _ (c .before .enum-told .given .1) (c .if1 .taken)

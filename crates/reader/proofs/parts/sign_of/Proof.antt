@@ -4,8 +4,6 @@ use borrow.Author.Needs.{needs}
 use Rattle.reader.proofs.AtHand.{sign-past}
 use Rattle.reader.proofs.parts.sign_of.Statement.{statement}
 use Rattle.reader.proofs.parts.sign_of.Tie as tie
-use Rattle.reader.proofs.parts.sign_of.Reads as reads
-use Rattle.reader.proofs.parts.sign_of.Lts as lts
 
 add-t6 : tie.Need-add-t6
 add-t6 c =

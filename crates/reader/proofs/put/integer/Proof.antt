@@ -14,10 +14,6 @@ use Rattle.records.specs.Records.{record-of}
 use Rattle.table.specs.Kinds.{integerKind}
 use Rattle.reader.proofs.put.integer.Statement.{statement}
 use Rattle.reader.proofs.put.integer.Tie as tie
-use Rattle.reader.proofs.put.integer.Reads as reads
-use Rattle.reader.proofs.put.integer.Lts as lts
-use Rattle.records.proofs.put.Reads as put-reads
-use Rattle.wide.proofs.put_wide.Reads as put-wide-reads
 
 -- a room of just as many bytes holds them and nothing else
 just : (o b : List ℕ) → length b ≡ length o → fitted o b ≡ o

@@ -1,11 +1,9 @@
 -- `reader::put::list`: the head, then the count in the rest of the room.
-use mathlib.Core.Path.{refl, ap, _∙_}
 use native.Mathlib.Omega.{arith}
 use borrow.Author.Needs.{needs}
 use lib.ListN.{length}
-use Prim.Native.Nat.{_≤_}
 use Prim.Native.Nat.{ℕ}
-use mathlib.Core.Path.{_≡_}
+use mathlib.Core.Path.{_≡_, _∙_}
 use Rattle.lists.proofs.Blocks.{fits-in, no-room}
 use Rattle.wide.specs.Bytes.{le}
 use Rattle.wide.proofs.Numbers.{le-length}
@@ -15,10 +13,6 @@ use Rattle.records.proofs.Putting.{with-head}
 use Rattle.table.specs.Kinds.{listKind, listLen}
 use Rattle.reader.proofs.put.list.Statement.{statement}
 use Rattle.reader.proofs.put.list.Tie as tie
-use Rattle.reader.proofs.put.list.Reads as reads
-use Rattle.reader.proofs.put.list.Lts as lts
-use Rattle.records.proofs.put_head.Reads as put-head-reads
-use Rattle.wide.proofs.put_u32.Reads as put-u32-reads
 
 size : (n : ℕ) → length (record-of listKind (le 4 n)) ≡ listLen
 size n = length-record listKind (le 4 n) ∙ omega (arith, le-length 4 n)

@@ -1,23 +1,19 @@
 -- `reader::put::name`: what is put into the rest of the room stands behind what it held before.
-use mathlib.Core.Path.{_≡_, refl, ap, sym, _∙_}
+use mathlib.Core.Path.{_≡_, ap, _∙_}
 use mathlib.Core.List.{List, [], _++_, append-nil}
 use Prim.Native.Nat.{ℕ, _+_, _-_, _≤_}
 use native.Mathlib.Omega.{arith}
 use borrow.Author.Needs.{needs}
 use borrow.Rule.Slice.PartMut.{putMid}
 use lib.ListN.{length, take, drop, length-drop, drop-of-length-le}
-use lib.Seq.{length-take-le}
 use Rattle.lists.specs.Over.{over, fitted}
 use Rattle.lists.proofs.Blocks.{fitted-over}
 use Rattle.lists.proofs.Writing.{part-drop, part-length}
 use Rattle.lists.proofs.Stands.{part-size}
-use Rattle.records.specs.Records.{headLen, record-of}
+use Rattle.records.specs.Records.{record-of}
 use Rattle.records.proofs.Heads.{length-record}
 use Rattle.reader.proofs.put.name.Statement.{statement}
 use Rattle.reader.proofs.put.name.Tie as tie
-use Rattle.reader.proofs.put.name.Reads as reads
-use Rattle.reader.proofs.put.name.Lts as lts
-use Rattle.records.proofs.put.Reads as put-reads
 
 behind : (o b ys : List ℕ) (p : ℕ) → ys ≡ fitted o (take (length b - p) (drop p b)) → p + length o ≤ length b
     → putMid p (length b - p) b ys ≡ take p b ++ over o (drop p b)
