@@ -2,26 +2,36 @@
 use mathlib.Core.Path.{_≡_, refl, ap, sym, subst, _∙_}
 use mathlib.Core.Bool.{Bool, true, false, cond}
 use mathlib.Core.List.{List}
-use Prim.Native.Nat.{ℕ, _+_, _-_, _≤_, _<_}
+use Prim.Native.Nat.{ℕ, _+_, _-_, _^_, _≤_, _<_}
 use native.Mathlib.Omega.{arith}
+use lib.IntN.{ℤ}
 use lib.ListN.{length}
 use lib.Dec.{ltb}
+use borrow.Author.Tests.{le-leb}
 use Rattle.refusals.specs.Numbers.{tooDeep, badSymbol, lowest}
 use Rattle.refusals.specs.Result.{Result, ok, refused}
-use Rattle.wide.specs.Bytes.{numberIn, integerAt}
+use Rattle.wide.specs.Bytes.{Bytes, numberIn, integerAt, wideIn}
 use Rattle.table.specs.Trees.{Tree, symbol, integer, binding, list, isSymbol}
 use Rattle.table.specs.declared.Record.{Record}
 use Rattle.table.specs.declared.Record.the-variants.{Symbol, Integer, Binding, List as ListOf, Bad}
-use Rattle.records.specs.Records.{headLen, lenAt, kindAt, payload}
+use Rattle.records.specs.Records.{headLen, kindAt, payload}
 use Rattle.table.specs.Kinds.{symbolKind, integerLen, listLen}
 use Rattle.table.specs.Records.{recordAt}
 use Rattle.table.specs.Decoding.{Found, found, andThen, itemsAt, isLowest, stepOf, stepAt, ofStep, treeAt}
 use Rattle.table.specs.declared.Step.{Step}
 use Rattle.table.specs.declared.Step.the-variants as step
-use Rattle.table.proofs.Reading.{RecordAt, record-in, symbol-in, StepIn, tree-of}
-use Rattle.records.proofs.Heads.{within-is}
+use Rattle.table.proofs.Reading.{RecordAt, record-in, read-in, symbol-in, StepIn, tree-of}
+use Rattle.records.proofs.Heads.{within-is, part-lt}
 use Rattle.table.proofs.Steps.{step-tree, step-in, found-in}
 use Rattle.printer.specs.PrivateTrees.{Right, Sound, treeOf, treesOf, nextOf, named-len}
+
+-- the count of a list fits 4 bytes, in a table of bytes
+pub list-small : (t : List ℕ) (at n : ℕ) (x : Record) → Bytes t → x ≡ recordAt t at → x ≡ ListOf n → n < 2 ^ 32
+list-small t at n x hb e e′ = let h = read-in t at x (ListOf n) e e′ in omega (arith, part-lt t (at + headLen) 4 hb (omega arith), h .0)
+
+-- the integer that was read where the record has its 16 bytes
+pub integer-value : (t : List ℕ) (at : ℕ) (z : ℤ) → integerLen ≤ length t - at → z ≡ wideIn t (at + headLen) → z ≡ integerAt t (at + headLen)
+integer-value t at z h e = e ∙ rw (le-leb (at + headLen + 16) (length t) (omega arith)) refl
 
 -- a record that is found has no fault
 abbrev plain : Record → Step

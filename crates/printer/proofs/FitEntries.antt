@@ -2,13 +2,13 @@
 use mathlib.Core.Path.{_≡_, refl, ap, sym, subst, _∙_}
 use mathlib.Core.Bool.{Bool, true, false, cond}
 use mathlib.Core.List.{List}
-use Prim.Native.Nat.{ℕ, _+_, _-_, _^_, _≤_, _<_}
+use Prim.Native.Nat.{ℕ, _+_, _-_, _≤_, _<_}
 use native.Mathlib.Omega.{arith}
 use lib.ListN.{length}
 use lib.IntN.{ℤ}
 use lib.Dec.{leb, eqb}
-use borrow.Author.Tests.{le-leb, leb-true, ne-eqb}
-use Rattle.wide.specs.Bytes.{Bytes, integerAt, wideIn, numberAt, numberIn}
+use borrow.Author.Tests.{leb-true, ne-eqb}
+use Rattle.wide.specs.Bytes.{Bytes, wideIn, numberAt, numberIn}
 use Rattle.wide.specs.Text.{integerText}
 use Rattle.wide.proofs.Decimals.{integer-top}
 use Rattle.records.specs.Records.{headLen, lenAt, kindAt}
@@ -17,18 +17,12 @@ use Rattle.table.specs.Kinds.{symbolKind, bindingKind, listKind, integerLen, li
 use Rattle.table.specs.declared.Record.{Record}
 use Rattle.table.specs.declared.Record.the-variants.{Symbol, Integer, Binding, List as ListOf, Bad}
 use Rattle.table.specs.Records.{recordAt}
-use Rattle.table.proofs.Reading.{RecordAt, RecordIn, record-in, read-in}
+use Rattle.table.proofs.Reading.{RecordAt, RecordIn, record-in}
 use Rattle.printer.specs.PrivateTrees.{Sound}
 use Rattle.printer.specs.PrivateFitting.{entryOf, Forward, Entered}
 use Rattle.printer.specs.declared.cost.Entry.{Entry}
 use Rattle.printer.specs.declared.cost.Entry.the-variants.{Is, Bad as NoEntry}
-
-pub list-small : (t : List ℕ) (at n : ℕ) (x : Record) → Bytes t → x ≡ recordAt t at → x ≡ ListOf n → n < 2 ^ 32
-list-small t at n x hb e e′ = let h = read-in t at x (ListOf n) e e′ in omega (arith, part-lt t (at + headLen) 4 hb (omega arith), h .0)
-
--- the integer that was read where the record has its 16 bytes
-pub integer-value : (t : List ℕ) (at : ℕ) (z : ℤ) → integerLen ≤ length t - at → z ≡ wideIn t (at + headLen) → z ≡ integerAt t (at + headLen)
-integer-value t at z h e = e ∙ rw (le-leb (at + headLen + 16) (length t) (omega arith)) refl
+use Rattle.printer.proofs.CheckedRecords.{integer-value}
 
 -- a number that is not 0 was read within the table
 read-within : (k : ℕ) (t : List ℕ) (p : ℕ) → 0 < numberIn k t p → p + k ≤ length t

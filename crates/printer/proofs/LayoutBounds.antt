@@ -61,7 +61,7 @@ inner-le false Wrap i = omega arith
 mutual
   unfolding lay records Good
 
-  pub lay-len : (x : Tree) (d : ℕ) (m : Wrapping) (w i c : ℕ) → Good x d → i + d ≤ depthLimit → length (bytes (lay x m w i c)) + 300 ≤ 128 * length (records x)
+  lay-len : (x : Tree) (d : ℕ) (m : Wrapping) (w i c : ℕ) → Good x d → i + d ≤ depthLimit → length (bytes (lay x m w i c)) + 300 ≤ 128 * length (records x)
   lay-len (symbol n) d m w i c g h = rw (length-record symbolKind n) (omega arith)
   lay-len (integer z) d m w i c g h = rw (length-record integerKind (wideBytes z), wide-length z) (omega (arith, integer-top z))
   lay-len (binding n x) d m w i c g h =

@@ -1,15 +1,15 @@
 -- The text of a list by its items, on a single line and wrapped alike: what stands before each item, the item, and the end. Assumes nothing.
-use mathlib.Core.Path.{_≡_, refl, ap, sym, _∙_}
+use mathlib.Core.Path.{_≡_, refl, ap, _∙_}
 use mathlib.Core.Bool.{Bool, true, false, cond}
 use mathlib.Core.List.{List, [], _∷_, _++_}
-use Prim.Native.Nat.{ℕ, _+_, _*_, _-_, _≤_, _<_}
+use Prim.Native.Nat.{ℕ, _+_, _*_, _-_, _<_}
 use native.Mathlib.Omega.{arith}
 use native.Mathlib.Nat.{add-mul}
 use lib.IntN.{ℤ}
 use lib.ListN.{length, length-append}
 use Rattle.wide.specs.Text.{integerText}
 use Rattle.table.specs.Trees.{Tree, Trees, symbol, integer, binding, list, none, more, count}
-use Rattle.printer.specs.Layout.{Wrap, SingleLine, Put, bytes, column, named, nl, gap, inner, fits, lay, items}
+use Rattle.printer.specs.Layout.{Wrap, SingleLine, bytes, column, named, nl, gap, inner, fits, lay, items}
 use Rattle.printer.specs.PrivateWriting.{line, lines, closing, laid}
 
 pub record Manner : Type 0 where

@@ -101,9 +101,6 @@ module _ {t : List ℕ} {at d n : ℕ} {m : Manner} {c : ℕ} {b₀ b : List ℕ
   pub filling-is : (b′ : List ℕ) (len′ p′ : ℕ) → b′ ≡ b → len′ ≡ len → p′ ≡ p → Filling t at d n m c b₀ b′ len′ p′ i
   filling-is b′ len′ p′ eb el ep = rw (eb, el, ep) h
 
-  pub so-far : len ≤ length (whole t at d n m c)
-  so-far = done-le t at d n m c len i p (h .gone) (h .right) (λ ys. omega (arith, h .size, ap length (h .text ys) ∙ length-append (h .o) (rest m ys (eqb i 0))))
-
   item-right : i < n → Right (treeAt t true (d - 1) p)
   item-right l = by (treeAt t true (d - 1) p) refl
     where

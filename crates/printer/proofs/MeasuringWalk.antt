@@ -3,7 +3,7 @@
 use mathlib.Core.Path.{_≡_, refl, ap, sym, subst, subst⁻¹, _∙_}
 use mathlib.Core.Bool.{Bool, true, false, cond}
 use mathlib.Core.List.{List, [], _∷_, _++_}
-use Prim.Native.Nat.{ℕ, _+_, _*_, _-_, _^_, _≤_, _<_}
+use Prim.Native.Nat.{ℕ, _+_, _*_, _-_, _≤_, _<_}
 use native.Mathlib.Omega.{arith}
 use native.Mathlib.Nat.{mul-le-mul-left}
 use lib.ListN.{length, length-append}
@@ -29,7 +29,7 @@ use Rattle.printer.specs.PrivateWriting.{line, laid}
 use Rattle.printer.specs.PrivateMeasuring.{Sized, Summed}
 use Rattle.printer.specs.declared.measure.Size.{Size}
 use Rattle.printer.specs.declared.measure.Measured.the-variants.{Bytes as Text, Refused}
-use Rattle.printer.proofs.FitEntries.{integer-value}
+use Rattle.printer.proofs.CheckedRecords.{integer-value}
 use Rattle.printer.proofs.ListTexts.{sizes, flatly, broken, line-binding, line-size, laid-binding, laid-fits, laid-size}
 use Rattle.printer.proofs.LayoutBounds.{named-size, nl-len-le, inner-le, found-len, line-len}
 
@@ -173,7 +173,7 @@ module _ (t : List ℕ) (at n d w i c p k cost′ empty len : ℕ) (g : Walk t a
   abbrev pub col : ℕ
   col = column (gap (eqb k 0) Wrap i (c + 1))
 
-  pub walk-item : (q a b l cost″ empty″ len″ : ℕ) → Bytes t → i + 1 + d ≤ depthLimit → Got t d p w ind col q a b l
+  walk-item : (q a b l cost″ empty″ len″ : ℕ) → Bytes t → i + 1 + d ≤ depthLimit → Got t d p w ind col q a b l
       → cost″ ≡ cost′ + a → empty″ ≡ empty + b → len″ ≡ len + l → Walk t at n d w i c q (k + 1) cost″ empty″ len″
   unfolding cost sizes
   walk-item q a b l cost″ empty″ len″ hb hi y ea eb el =

@@ -13,7 +13,7 @@ use Rattle.refusals.specs.Numbers.{tableLimit, depthLimit, tooLong, printRoom}
 use Rattle.refusals.specs.Result.{Result, ok, refused}
 use Rattle.refusals.specs.declared.Refusal.{Refusal}
 use Rattle.table.specs.Trees.{Tree, Trees, none, more}
-use Rattle.table.specs.Decoding.{Found, found, andThen, treeAt, treesAt, tableOf}
+use Rattle.table.specs.Decoding.{Found, found, treeAt, treesAt, tableOf}
 use Rattle.printer.specs.Layout.{pageFrom, page}
 use Rattle.printer.specs.Printing.{printing, printedInto, printOf}
 use Rattle.printer.specs.PrivateTrees.{Right, treeOf, treesOf, nextOf}

@@ -1,6 +1,5 @@
 // What a record puts of its own: a symbol, an integer, or a binding's name.
 use records::HEAD;
-ghost use mathlib.Core.Path.{_≡_};
 ghost use Prim.Native.Nat.{_+_, _≤_};
 ghost use lib.ListN.{length};
 ghost use Rattle.wide.specs.Bytes.{integerAt};

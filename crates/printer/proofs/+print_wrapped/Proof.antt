@@ -9,8 +9,7 @@ use borrow.Fn.PlainCycle.{Measures, is, falls, and}
 use Rattle.table.proofs.Reading.{symbol-in, integer-in, binding-in, list-in}
 use Rattle.printer.specs.Layout.{Wrap}
 use Rattle.printer.specs.PrivateWriting.{laid}
-use Rattle.printer.proofs.CheckedRecords.{bad-found, symbol-found, integer-found, binding-found, list-found}
-use Rattle.printer.proofs.FitEntries.{list-small}
+use Rattle.printer.proofs.CheckedRecords.{bad-found, symbol-found, integer-found, binding-found, list-found, list-small}
 use Rattle.printer.proofs.ListTexts.{broken, laid-symbol, laid-integer, laid-binding}
 use Rattle.printer.proofs.LayoutBounds.{inner-le}
 use Rattle.printer.proofs.ListWriting.{atom-written, binding-size, binding-written, Filling, filling-begin, filling-item, filling-step, end-size, filling-end}

@@ -1,6 +1,6 @@
 -- `printer::print_trees`: what is done of the page, and the trees that are left.
 use native.Mathlib.Omega.{arith}
-use Prim.Native.Nat.{_+_, _-_, _*_, _≤_, _<_}
+use Prim.Native.Nat.{_-_}
 use borrow.Author.Needs.{needs}
 use lib.ListN.{length}
 use lib.Dec.{lit≤}

@@ -7,9 +7,6 @@ use lib.ListN.{length}
 use Rattle.printer.proofs.MeasuringWalk.{Paged, paged-long, paged-begin, lead-some, lead-none, paged-tree, paged-stop, paged-end}
 use Rattle.printer.proofs.measure.measure.Statement.{statement}
 use Rattle.printer.proofs.measure.measure.Tie as tie
-use Rattle.printer.proofs.measure.measure.Reads as reads
-use Rattle.printer.proofs.measure.measure.Lts as lts
-use Rattle.printer.proofs.measure.measure_tree.Reads as measure-tree-reads
 
 abbrev Inv-loop : tie.InvT-loop
 Inv-loop t width p₀ w₀ p w = Paged t width p w
