@@ -4,10 +4,9 @@ use mathlib.Core.Bool.{true, false, cond}
 use mathlib.Core.List.{List, [], _∷_}
 use Prim.Native.Nat.{ℕ, _-_, _^_}
 use native.Mathlib.Omega.{arith}
-use lib.IntN.{ℤ, pos, negsuc}
+use lib.IntN.{pos, negsuc}
 use lib.ListN.{getD, replicate}
 use Rattle.classes.specs.Classes.{classOf}
-use Rattle.wide.specs.declared.Wide.{Wide}
 use Rattle.wide.specs.Value.{valueOf}
 use Rattle.wide.specs.Bytes.{le, number}
 use Rattle.lexer.specs.declared.Token.the-variants as code
@@ -34,12 +33,7 @@ use Rattle.printer.specs.Printing.{printing, printedInto}
 use Rattle.words.specs.Words.{eight, endKind, rparenKind, symbolKind, intKind, refusedKind, moreKind, doneKind, tokenWords, refusedWords, doneWords, answerWords, replyWords, fedWords, lengthWords}
 use Rattle.tulbazhik_feed.specs.States.{packOf, unpackOf, stateWords}
 use Rattle.tulbazhik_feed.proofs.Packed.{back}
-
-abbrev Not : Type 0 → Type 0
-Not P = P → ⊥
-
-abbrev wide : ℤ → ℕ → Wide
-wide h l = record { hi = h; lo = l }
+use Rattle.demands.proofs.Refuted.{Not, wide}
 
 -- two words of lists that are equal
 word : (i : ℕ) (v w : List ℕ) → v ≡ w → getD v i 0 ≡ getD w i 0
@@ -216,18 +210,18 @@ unfolding readInto fileOf readItems readTree nextToken lexIn skip classOf
 read-changed e = let z : _≡_ {A = ℕ} 0 1 = word 0 _ _ e in omega arith
 
 -- `a`, 7 bytes as a table and 2 as a text
-abbrev a : List ℕ
-a = 7 ∷ 0 ∷ 0 ∷ 0 ∷ 1 ∷ 0 ∷ 97 ∷ []
+abbrev oneSymbol : List ℕ
+oneSymbol = 7 ∷ 0 ∷ 0 ∷ 0 ∷ 1 ∷ 0 ∷ 97 ∷ []
 
 -- tulbazhik_print: 0 bytes; the bytes needed given as a length; a text changed where the room is too short
-print-none : Not (eight doneKind 0 0 0 0 0 ≡ lengthWords (printing a 0 2))
+print-none : Not (eight doneKind 0 0 0 0 0 ≡ lengthWords (printing oneSymbol 0 2))
 unfolding lengthWords printing tableOf treesAt treeAt recordAt headAt stepAt number isSymbol runsOn classOf lay pageFrom
 print-none e = let z : _≡_ {A = ℕ} 0 2 = word 2 _ _ e in omega arith
 
-print-needed : Not (eight doneKind 0 2 0 0 0 ≡ lengthWords (printing a 0 1))
+print-needed : Not (eight doneKind 0 2 0 0 0 ≡ lengthWords (printing oneSymbol 0 1))
 unfolding lengthWords printing tableOf treesAt treeAt recordAt headAt stepAt number isSymbol runsOn classOf lay pageFrom
 print-needed e = let z : _≡_ {A = ℕ} 8 6 = word 0 _ _ e in omega arith
 
-print-changed : Not (97 ∷ [] ≡ printedInto a 0 (0 ∷ []))
+print-changed : Not (97 ∷ [] ≡ printedInto oneSymbol 0 (0 ∷ []))
 unfolding printedInto tableOf treesAt treeAt recordAt headAt stepAt number isSymbol runsOn classOf lay pageFrom
 print-changed e = let z : _≡_ {A = ℕ} 97 0 = word 0 _ _ e in omega arith
