@@ -82,8 +82,8 @@ measure-list-μ-loop t at n depth width indent column p₀ i₀ cost₀ empty₀
 
 -- no sum wraps where a symbol is counted in, and where another tree is: the walk past it is bounded
 measure-list-named : (t : ℕ) (c : measure-list-lts.Then2 (measure-list-calls t) (measure-list-at t) measure-list.Post measure-list-Inv-loop measure-list-μ-loop)
-    → (c .before .before .before .loop .cost + (c .before .past-symbol .result - c .before .before .before .loop .p - 6) ≤ 8589934592)
-    × (c .before .before .before .loop .len + (c .before .past-symbol .result - c .before .before .before .loop .p - 6) ≤ 8589934592)
+    → (c .before .before .before .loop .cost + (c .before .past-symbol .result - c .before .before .before .loop .p - headLen) ≤ 8589934592)
+    × (c .before .before .before .loop .len + (c .before .past-symbol .result - c .before .before .before .loop .p - headLen) ≤ 8589934592)
 measure-list-named t c =
     let l = c .before .before .before .loop in
     let b = c .before .before .before .before .before .before in
