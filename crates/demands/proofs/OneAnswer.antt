@@ -29,7 +29,7 @@ use Rattle.printer.specs.Printing.{printOf}
 use Rattle.reader.specs.declared.Readout.{Readout}
 use Rattle.reader.specs.declared.Readout.the-variants as read
 use Rattle.reader.specs.Reading.{readOf}
-pub use Rattle.demands.specs.OneAnswer.{One, OneHeld, Both, BothHeld, WideFits, SignedFits, TokenFits, LexedFits, AnswerFits, OutFits, FedFits, OneAnswer}
+use Rattle.demands.specs.OneAnswer.{One, OneHeld, Both, BothHeld, WideFits, SignedFits, TokenFits, LexedFits, AnswerFits, OutFits, FedFits, OneAnswer}
 
 -- ---- a promise by a definition decides, and so does one through a view that tells results apart
 

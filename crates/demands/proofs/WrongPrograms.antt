@@ -1,57 +1,48 @@
--- Programs that document 01 wants the promises to catch ('How little a promise may leave open'): each breaks one on a small input.
-use mathlib.Core.Path.{_≡_, ap}
+-- Each of the wrong programs breaks a promise on a small input, computed. Assumes nothing.
+use mathlib.Core.Path.{_≡_, sym, ap, _∙_}
 use mathlib.Core.List.{List, [], _∷_}
-use mathlib.Core.Bool.{cond}
-use Prim.Native.Nat.{ℕ, _+_}
+use Prim.Native.Nat.{ℕ}
 use native.Mathlib.Omega.{arith}
-use lib.Dec.{eqb}
-use lib.ListN.{length}
-use Rattle.refusals.specs.Numbers.{formFeed}
-use Rattle.refusals.specs.Result.{ok, refused}
+use lib.ListN.{length, getD, replicate}
+use Rattle.refusals.specs.Result.{ok}
 use Rattle.classes.specs.Classes.{classOf}
-use Rattle.lexer.specs.Tokens.{Token, token, rparen, Answer}
+use Rattle.wide.specs.Bytes.{le, number}
+use Rattle.lexer.specs.Tokens.{Token, token, rparen}
 use Rattle.lexer.specs.Lexing.{skip, symbolEnd, lexIn, nextToken}
-use Rattle.lexer.specs.Streams.{tokensFrom, tokensOf}
-use Rattle.feeder.specs.declared.State.{State}
+use Rattle.lexer.specs.Streams.{tokensFrom}
 use Rattle.feeder.specs.Machine.{closing, turn, step}
-use Rattle.feeder.specs.Feeding.{more, ready, Fed, fed, freshState, feedFrom, feedOf, closeOf}
+use Rattle.feeder.specs.Feeding.{more, ready, Fed, feedFrom, feedOf, closeOf}
+use Rattle.records.specs.Records.{record-of, headAt}
+use Rattle.table.specs.Trees.{Tree, symbol, none, more as and, runsOn, isSymbol, records}
+use Rattle.table.specs.Records.{recordAt}
+use Rattle.table.specs.Decoding.{itemsAt, stepAt, treeAt, treesAt, tableOf}
+use Rattle.printer.specs.Layout.{breakColumn, fitsIn, cost, lay, pageFrom}
+use Rattle.printer.specs.Printing.{printedInto}
 use Rattle.demands.specs.Driver.{driveBy}
-
--- a lexer that refuses everything; `a` is a symbol
-abbrev refusesAll : List ℕ → ℕ → Answer
-refusesAll s i = refused formFeed i
-
-pub refuses-all : refusesAll (97 ∷ []) 0 ≡ nextToken (97 ∷ []) 0 → ⊥
-unfolding nextToken lexIn skip classOf symbolEnd
-refuses-all e = let z : _≡_ {A = ℕ} 0 1 = cc in omega arith
-
--- a feeder that lexes the first piece and answers "more" to the rest
-abbrev firstPiece : State → List ℕ → Fed
-firstPiece s q = cond (eqb (s .place) 0) (feedOf s q) (fed (ok more) (length q) (record { phase = s .phase; place = s .place + length q }))
+use Rattle.demands.specs.WrongPrograms.{WrongPrograms}
+use Rattle.demands.proofs.Layouts.{rule}
 
 no-token : (t : Token) → ok more ≡ ok (ready t) → ⊥
 no-token t e = let z : _≡_ {A = ℕ} 0 1 = cc in omega arith
 
--- its promise is broken at the `)` of ` )`, cut before it
-pub first-piece : firstPiece (feedOf freshState (32 ∷ []) .state) (41 ∷ []) ≡ feedOf (feedOf freshState (32 ∷ []) .state) (41 ∷ []) → ⊥
-unfolding feedOf feedFrom step turn classOf
-first-piece e = no-token (token rparen 1 1) (ap (λ (f : Fed). f .reply) e)
+-- `a`
+abbrev a : Tree
+a = symbol (97 ∷ [])
 
--- and it is not cut independent: a host that feeds it ` ` and `)` gets no token
-pub first-piece-cut : driveBy firstPiece closeOf 9 freshState ((32 ∷ []) ∷ (41 ∷ []) ∷ []) ≡ tokensOf (32 ∷ 41 ∷ []) → ⊥
-unfolding driveBy feedOf feedFrom closeOf closing step turn classOf tokensFrom nextToken lexIn skip
-first-piece-cut e = let z : _≡_ {A = ℕ} 0 1 = cc in omega arith
-
--- a feeder that invents the bytes consumed: always the whole piece
-abbrev wholePiece : State → List ℕ → Fed
-wholePiece s q = fed (feedOf s q .reply) (length q) (feedOf s q .state)
-
--- its promise is broken at `))`, of which one byte is consumed
-pub whole-piece : wholePiece freshState (41 ∷ 41 ∷ []) ≡ feedOf freshState (41 ∷ 41 ∷ []) → ⊥
-unfolding feedOf feedFrom step turn classOf
-whole-piece e = let z : _≡_ {A = ℕ} 2 1 = ap (λ (f : Fed). f .used) e in omega arith
-
--- and a host loses the second token
-pub whole-piece-cut : driveBy wholePiece closeOf 9 freshState ((41 ∷ 41 ∷ []) ∷ []) ≡ tokensOf (41 ∷ 41 ∷ []) → ⊥
-unfolding driveBy feedOf feedFrom closeOf closing step turn classOf tokensFrom nextToken lexIn skip
-whole-piece-cut e = let z : _≡_ {A = ℕ} 0 1 = cc in omega arith
+pub wrong-programs : WrongPrograms
+unfolding driveBy feedOf feedFrom closeOf closing step turn classOf tokensFrom nextToken lexIn skip symbolEnd printedInto tableOf treesAt treeAt itemsAt recordAt headAt stepAt number isSymbol runsOn breakColumn fitsIn cost lay pageFrom records record-of le
+wrong-programs = record {
+  refuses-all = λ e. let z : _≡_ {A = ℕ} 0 1 = cc in omega arith;
+  first-piece = λ e. no-token (token rparen 1 1) (ap (λ (f : Fed). f .reply) e);
+  first-piece-cut = λ e. let z : _≡_ {A = ℕ} 0 1 = cc in omega arith;
+  whole-piece = λ e. let z : _≡_ {A = ℕ} 2 1 = ap (λ (f : Fed). f .used) e in omega arith;
+  whole-piece-cut = λ e. let z : _≡_ {A = ℕ} 0 1 = cc in omega arith;
+  -- at width 13 the sixth byte of `(rule (a b) c)` is LF, on one line it is a space
+  one-line = λ f. let e : _≡_ {A = ℕ} 32 10 = ap (λ (l : List ℕ). getD l 5 0) (f (records rule) 13 (replicate 24 0)) in omega arith;
+  -- the empty table leaves the buffer, and the table of `a` changes it
+  same-bytes = λ o f. let e : _≡_ {A = ℕ} 0 97 = ap (λ (l : List ℕ). getD l 0 0) (sym (f [] 0 (0 ∷ 0 ∷ [])) ∙ f (records a) 0 (0 ∷ 0 ∷ [])) in omega arith;
+  leaves-all = λ f. let e : _≡_ {A = ℕ} 0 97 = ap (λ (l : List ℕ). getD l 0 0) (f (records a) 0 (0 ∷ 0 ∷ [])) in omega arith;
+  one-line-text = λ f. let e : _≡_ {A = ℕ} 32 10 = ap (λ (l : List ℕ). getD l 5 0) (f (and rule none) 13) in omega arith;
+  -- no bytes are the text both of no tree and of one
+  same-text = λ o f. let e : _≡_ {A = ℕ} 0 2 = ap length (sym (f none 0) ∙ f (and a none) 0) in omega arith;
+}

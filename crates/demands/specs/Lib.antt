@@ -5,3 +5,4 @@ pub mod PrintThenFeed
 pub mod OneAnswer
 pub mod OneAnswerDoors
 pub mod Worked
+pub mod WrongPrograms
