@@ -28,7 +28,7 @@ place l (ok end) = l
 place l (refused n p) = l
 place l (ok (is t)) = t .start
 
--- an integer of one byte has 22 bytes of records, but another byte stands between it and the next: it owes one
+-- the record of an integer of one byte is long, but another byte stands between it and the next: it owes one
 abbrev owed : Kind → ℕ
 owed lparen = 0
 owed rparen = 0
