@@ -4,3 +4,4 @@ pub mod Writing
 pub mod Each
 pub mod Blocks
 pub mod Stands
+pub mod Rooms

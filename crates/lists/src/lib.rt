@@ -24,6 +24,16 @@ pub fn less(a: usize, b: usize) -> usize
     0
 }
 
+// The lesser of two: where the first free byte of a room is, or the end of a room that is too short.
+pub fn least(a: usize, b: usize) -> usize
+    ensures { λ r. ⌜ (r ≤ b) × (a ≤ b → r ≡ a) × (b ≤ a → r ≡ b) ⌝ }
+{
+    if a <= b {
+        return a;
+    }
+    b
+}
+
 // The first four bytes. All are read before one is written, so that they go as one number.
 fn put_four(s: &[u8], out: &mut [u8])
     requires { ⌜ (4 ≤ length (now s)) × (4 ≤ length (now out)) ⌝ }

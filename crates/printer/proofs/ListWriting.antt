@@ -15,9 +15,10 @@ use Rattle.table.specs.Decoding.{Found, found, andThen, itemsAt, treeAt}
 use Rattle.table.proofs.Steps.{Gone, gone-begin, gone-item, gone-stop, gone-end}
 use Rattle.printer.specs.Layout.{Wrap, column, named, gap, inner, fits}
 use Rattle.printer.specs.PrivateTrees.{Right, treeOf, treesOf, nextOf}
-use Rattle.printer.specs.PrivateWriting.{Puts, Written, line, laid}
+use Rattle.lists.specs.Rooms.{Puts}
+use Rattle.printer.specs.PrivateWriting.{Written, line, laid}
 use Rattle.printer.proofs.CheckedRecords.{Made, right-is, found-end}
-use Rattle.printer.proofs.ShortRooms.{puts-both}
+use Rattle.lists.proofs.Rooms.{puts-both}
 use Rattle.printer.proofs.ListTexts.{Manner, rest, rest-more, rest-none, broken, laid-fits, laid-list}
 use Rattle.printer.proofs.LayoutBounds.{item-column-le}
 

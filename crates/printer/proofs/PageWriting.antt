@@ -17,14 +17,15 @@ use Rattle.table.specs.Decoding.{Found, found, treeAt, treesAt, tableOf}
 use Rattle.printer.specs.Layout.{pageFrom, page}
 use Rattle.printer.specs.Printing.{printing, printedInto, printOf}
 use Rattle.printer.specs.PrivateTrees.{Right, treeOf, treesOf, nextOf}
-use Rattle.printer.specs.PrivateWriting.{Filled, Puts, Written, laid, framed}
+use Rattle.lists.specs.Rooms.{Filled, Puts}
+use Rattle.printer.specs.PrivateWriting.{Written, laid, framed}
 use Rattle.printer.specs.PrivateMeasuring.{Summed}
 use Rattle.printer.specs.declared.measure.Measured.{Measured}
 use Rattle.printer.specs.declared.measure.Measured.the-variants.{Bytes, Refused as No}
 use Rattle.printer.specs.declared.Printed.{Printed}
 use Rattle.printer.specs.declared.Printed.the-variants.{Text, Refused}
 use Rattle.table.proofs.Steps.{Read, read-begin, read-tree, read-stop, read-end}
-use Rattle.printer.proofs.ShortRooms.{puts-both}
+use Rattle.lists.proofs.Rooms.{puts-both}
 
 -- ---- one tree with what stands around it
 

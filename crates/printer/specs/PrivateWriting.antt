@@ -6,20 +6,12 @@ use mathlib.Core.List.{List, [], _∷_, _++_}
 use lib.ListN.{length}
 use Rattle.refusals.specs.Numbers.{tableLimit, depthLimit}
 use Rattle.refusals.specs.Result.{Result}
-use Rattle.lists.specs.Over.{over}
+use Rattle.lists.specs.Rooms.{Puts}
 use Rattle.wide.specs.Text.{integerText}
 use Rattle.table.specs.Trees.{Tree, Trees, symbol, integer, binding, list, none, more}
 use Rattle.table.specs.Decoding.{Found, treeAt}
 use Rattle.printer.specs.Layout.{Wrap, bytes, nl, named, lay}
 use Rattle.printer.specs.PrivateTrees.{Right, treeOf, nextOf}
-
--- a room that has the bytes o holds them at its front afterwards; a shorter one may hold anything
-abbrev pub Filled : List ℕ → List ℕ → List ℕ → Type 0
-Filled o b b′ = length o ≤ length b → b′ ≡ over o b
-
--- the n bytes o were put into a room
-abbrev pub Puts : List ℕ → ℕ → List ℕ → List ℕ → Type 0
-Puts o n b b′ = (n ≡ length o) × Filled o b b′
 
 -- the text of the tree that was found was put: the place past the tree, and the bytes that it takes
 abbrev pub Written : (Tree → List ℕ) → Result (Found Tree) → ℕ → ℕ → List ℕ → List ℕ → Type 0

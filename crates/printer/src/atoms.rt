@@ -7,7 +7,7 @@ ghost use Rattle.wide.specs.Text.{integerText};
 ghost use Rattle.records.specs.Records.{headLen, payload};
 ghost use Rattle.table.specs.Kinds.{integerLen};
 ghost use Rattle.printer.specs.Layout.{named};
-ghost use Rattle.printer.specs.PrivateWriting.{Puts};
+ghost use Rattle.lists.specs.Rooms.{Puts};
 
 // The symbol whose record of `len` bytes stands at `at`.
 pub fn put_symbol(t: &[u8], at: usize, len: usize, out: &mut [u8]) -> usize

@@ -54,7 +54,7 @@ pub fn print_flat(t: &[u8], at: usize, depth: usize, out: &mut [u8]) -> Run
         }
         Record::Binding(len) => {
             let k = atoms::put_name(t, at, len, out);
-            let rest = room::least(k, out.len());
+            let rest = lists::least(k, out.len());
             let tree = print_flat(t, at + len, depth - 1, &mut out[rest..]);
             Run {
                 next: tree.next,
@@ -66,9 +66,9 @@ pub fn print_flat(t: &[u8], at: usize, depth: usize, out: &mut [u8]) -> Run
             let mut p = at + table::LIST_LEN;
             let mut i = 0;
             while i < n {
-                let from = room::least(w, out.len());
+                let from = lists::least(w, out.len());
                 let k = w + room::put_unless(i == 0, b' ', &mut out[from..]);
-                let rest = room::least(k, out.len());
+                let rest = lists::least(k, out.len());
                 let len = symbol_at(t, p);
                 if 0 < len {
                     w = k + atoms::put_symbol(t, p, len, &mut out[rest..]);
@@ -80,7 +80,7 @@ pub fn print_flat(t: &[u8], at: usize, depth: usize, out: &mut [u8]) -> Run
                 }
                 i += 1;
             }
-            let rest = room::least(w, out.len());
+            let rest = lists::least(w, out.len());
             let end = room::put_byte(b')', &mut out[rest..]);
             Run {
                 next: p,

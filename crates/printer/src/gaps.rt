@@ -4,7 +4,8 @@ ghost use mathlib.Core.Path.{_≡_};
 ghost use Prim.Native.Nat.{_+_, _≤_};
 ghost use Rattle.refusals.specs.Numbers.{depthLimit};
 ghost use Rattle.printer.specs.Layout.{Wrap, bytes, column as columnOf, breakColumn, gap, inner};
-ghost use Rattle.printer.specs.PrivateWriting.{Puts, closing};
+ghost use Rattle.lists.specs.Rooms.{Puts};
+ghost use Rattle.printer.specs.PrivateWriting.{closing};
 
 // The column that a line break sets.
 fn break_column(indent: usize) -> usize
@@ -55,7 +56,7 @@ pub fn put_close(empty: bool, indent: usize, out: &mut [u8]) -> usize
         return room::put_byte(b')', out);
     }
     let n = room::nl(indent, out);
-    let rest = room::least(n, out.len());
+    let rest = lists::least(n, out.len());
     let k = room::put_byte(b')', &mut out[rest..]);
     n + k
 }

@@ -20,7 +20,8 @@ ghost use Rattle.table.specs.Decoding.{treeAt, tableOf};
 ghost use Rattle.printer.specs.Layout.{page};
 ghost use Rattle.printer.specs.Printing.{printing, printedInto, printOf};
 ghost use Rattle.printer.specs.PrivateTrees.{Right, treesOf};
-ghost use Rattle.printer.specs.PrivateWriting.{Puts, Written, laid, Ready, framed};
+ghost use Rattle.lists.specs.Rooms.{Puts};
+ghost use Rattle.printer.specs.PrivateWriting.{Written, laid, Ready, framed};
 
 pub enum Printed {
     // The bytes written.
@@ -60,7 +61,7 @@ fn print_wrapped(
         }
         Record::Binding(len) => {
             let k = atoms::put_name(t, at, len, out);
-            let rest = room::least(k, out.len());
+            let rest = lists::least(k, out.len());
             let tree = print_wrapped(
                 t,
                 at + len,
@@ -83,9 +84,9 @@ fn print_wrapped(
             let mut p = at + table::LIST_LEN;
             let mut i = 0;
             while i < n {
-                let from = room::least(w, out.len());
+                let from = lists::least(w, out.len());
                 let k = w + gaps::put_gap(i == 0, indent, &mut out[from..]);
-                let rest = room::least(k, out.len());
+                let rest = lists::least(k, out.len());
                 let item = print_wrapped(
                     t,
                     p,
@@ -99,7 +100,7 @@ fn print_wrapped(
                 p = item.next;
                 i += 1;
             }
-            let rest = room::least(w, out.len());
+            let rest = lists::least(w, out.len());
             let end = gaps::put_close(n == 0, indent, &mut out[rest..]);
             Run {
                 next: p,
@@ -115,10 +116,10 @@ fn print_node(t: &[u8], at: usize, width: usize, out: &mut [u8]) -> Run
     ensures { λ r. ⌜ Written (framed (ltb 0 at) width) (treeAt (now (t .entry)) true depthLimit at) (r .next) (r .len) (now (out .entry)) (now (out .exit)) ⌝ }
 {
     let w = room::put_unless(at == 0, b'\n', out);
-    let rest = room::least(w, out.len());
+    let rest = lists::least(w, out.len());
     let tree = print_wrapped(t, at, refusals::DEPTH_LIMIT, width, 0, 0, &mut out[rest..]);
     let end = w + tree.len;
-    let last = room::least(end, out.len());
+    let last = lists::least(end, out.len());
     let k = room::put_byte(b'\n', &mut out[last..]);
     Run {
         next: tree.next,
@@ -134,7 +135,7 @@ fn print_trees(t: &[u8], width: usize, out: &mut [u8]) -> usize
     let mut p = 0;
     let mut w = 0;
     while p < t.len() {
-        let rest = room::least(w, out.len());
+        let rest = lists::least(w, out.len());
         let line = print_node(t, p, width, &mut out[rest..]);
         w = w + line.len;
         p = line.next;

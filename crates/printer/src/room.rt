@@ -6,17 +6,7 @@ ghost use Prim.Native.Nat.{_≤_};
 ghost use lib.ListN.{length};
 ghost use Rattle.refusals.specs.Numbers.{depthLimit};
 ghost use Rattle.printer.specs.Layout.{bytes, nl as nlOf};
-ghost use Rattle.printer.specs.PrivateWriting.{Puts};
-
-// The lesser of two: where the first free byte is, or the end of a room that is too short.
-pub fn least(a: usize, b: usize) -> usize
-    ensures { λ r. ⌜ (r ≤ b) × (a ≤ b → r ≡ a) ⌝ }
-{
-    if a <= b {
-        return a;
-    }
-    b
-}
+ghost use Rattle.lists.specs.Rooms.{Puts};
 
 pub fn put_byte(b: u8, out: &mut [u8]) -> usize
     ensures { λ r. ⌜ Puts (b ∷ []) r (now (out .entry)) (now (out .exit)) ⌝ }

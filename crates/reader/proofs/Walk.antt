@@ -21,7 +21,8 @@ use Rattle.records.proofs.Heads.{length-record}
 use Rattle.table.specs.Kinds.{symbolKind, bindingKind}
 use Rattle.table.specs.Trees.{Tree, Trees, symbol as symbolTree, binding, count, records, recordsOf}
 use Rattle.reader.specs.Grammar.{One, got, closed, ended, Many, upTo, toEnd, cons, onward, bound, nameOf, after, readItems, readTree}
-use Rattle.reader.specs.PrivateWalk.{Lexes, due, Filled, FilledFrom, TreeTold, ItemsTold, LeftKind, LeftOver, Seen, signOf, pastOf}
+use Rattle.lists.specs.Rooms.{Filled}
+use Rattle.reader.specs.PrivateWalk.{Lexes, due, FilledFrom, TreeTold, ItemsTold, LeftKind, LeftOver, Seen, signOf, pastOf}
 use Rattle.reader.specs.declared.parts.Look.{Look}
 use Rattle.reader.specs.declared.parts.Stop.the-variants as stop
 use Rattle.reader.specs.declared.parts.Sign.the-variants.{At, Other}

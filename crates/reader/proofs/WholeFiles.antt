@@ -14,7 +14,8 @@ use Rattle.lexer.specs.Lexing.{nextToken}
 use Rattle.table.specs.Trees.{Trees, recordsOf}
 use Rattle.reader.specs.Grammar.{Many, upTo, toEnd, readItems, readTree, whole, fileOf}
 use Rattle.reader.specs.Reading.{answered, leaves, reading, readInto}
-use Rattle.reader.specs.PrivateWalk.{ItemsTold, ItemsRead, Filled}
+use Rattle.lists.specs.Rooms.{Filled}
+use Rattle.reader.specs.PrivateWalk.{ItemsTold, ItemsRead}
 use Rattle.reader.specs.declared.parts.ManyRead.{ManyRead}
 use Rattle.reader.specs.declared.parts.Stop.{Stop}
 use Rattle.reader.specs.declared.parts.Stop.the-variants as stop

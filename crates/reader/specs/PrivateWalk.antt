@@ -7,6 +7,7 @@ use lib.ListN.{length, take, drop}
 use Rattle.refusals.specs.Numbers.{noTree}
 use Rattle.refusals.specs.Result.{Result, ok, refused}
 use Rattle.lists.specs.Over.{over}
+use Rattle.lists.specs.Rooms.{Filled}
 use Rattle.lexer.specs.Tokens.{Kind, lparen, rparen, at-sign, symbol, int, Token, token, past, Answer, end, is}
 use Rattle.lexer.specs.Lexing.{nextToken}
 use Rattle.table.specs.Trees.{Tree, Trees, count, records, recordsOf}
@@ -31,10 +32,7 @@ due s (got x a) = ok (got x a)
 due s (closed t) = refused noTree (t .start)
 due s ended = refused noTree (length s)
 
--- a room that has the bytes o holds them afterwards, at its front or from a place on; a shorter one may hold anything
-abbrev pub Filled : List ℕ → List ℕ → List ℕ → Type 0
-Filled o b b′ = length o ≤ length b → b′ ≡ over o b
-
+-- a room that has the bytes o from a place on holds them there afterwards; a shorter one may hold anything
 abbrev pub FilledFrom : ℕ → List ℕ → List ℕ → List ℕ → Type 0
 FilledFrom p o b b′ = p + length o ≤ length b → b′ ≡ take p b ++ over o (drop p b)
 

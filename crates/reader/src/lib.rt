@@ -48,7 +48,7 @@ fn read_tree(src: &[u8], tok: Lexed, depth: usize, buf: &mut [u8]) -> OneRead
                 if depth == 0 {
                     return parts::no_tree(refusals::TOO_DEEP, start);
                 }
-                let rest = parts::least(table::LIST_LEN, buf.len());
+                let rest = lists::least(table::LIST_LEN, buf.len());
                 let items = read_items(src, start + 1, depth - 1, &mut buf[rest..]);
                 let stop = items.stop;
                 match stop {
@@ -105,7 +105,7 @@ fn read_items(src: &[u8], at: usize, depth: usize, buf: &mut [u8]) -> ManyRead
                 }
             }
             Look::Other => {
-                let rest = parts::least(size, buf.len());
+                let rest = lists::least(size, buf.len());
                 let one = read_tree(src, tok, depth - due, &mut buf[rest..]);
                 if one.refused {
                     return parts::no_items(one.number, one.place);

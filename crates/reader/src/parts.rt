@@ -97,16 +97,6 @@ pub fn no_items(number: u8, place: usize) -> ManyRead
     }
 }
 
-// The lesser of two: where the first free byte is, or the end of a room that is too short.
-pub fn least(a: usize, b: usize) -> usize
-    ensures { λ r. ⌜ (r ≤ b) × (a ≤ b → r ≡ a) ⌝ }
-{
-    if a <= b {
-        return a;
-    }
-    b
-}
-
 pub fn sign_of(tok: Lexed) -> Sign
     requires { ⌜ pastOf (answerOf tok) ≤ sourceLimit ⌝ }
     ensures { λ r. ⌜ r ≡ signOf (answerOf tok) ⌝ }

@@ -26,7 +26,7 @@ use Rattle.printer.proofs.gaps.item_column.Reads as item-column-reads
 use Rattle.printer.proofs.gaps.item_indent.Reads as item-indent-reads
 use Rattle.printer.proofs.gaps.put_close.Reads as put-close-reads
 use Rattle.printer.proofs.gaps.put_gap.Reads as put-gap-reads
-use Rattle.printer.proofs.room.least.Reads as least-reads
+use Rattle.lists.proofs.least.Reads as least-reads
 use Rattle.printer.proofs.room.put_byte.Reads as put-byte-reads
 use Rattle.table.proofs.record_at.Reads as record-at-reads
 use Rattle.printer.proofs.+print_wrapped.{statement}

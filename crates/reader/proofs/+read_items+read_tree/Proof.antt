@@ -23,7 +23,7 @@ use Rattle.reader.proofs.+read_items+read_tree.Lts-read_tree as read-tr
 use Rattle.lexer.proofs.next_token.Reads as next-token-reads
 use Rattle.reader.proofs.parts.glance.Reads as glance-reads
 use Rattle.reader.proofs.parts.items.Reads as items-reads
-use Rattle.reader.proofs.parts.least.Reads as least-reads
+use Rattle.lists.proofs.least.Reads as least-reads
 use Rattle.reader.proofs.parts.no_items.Reads as no-items-reads
 use Rattle.reader.proofs.parts.no_tree.Reads as no-tree-reads
 use Rattle.reader.proofs.parts.sign_of.Reads as sign-of-reads

@@ -1,7 +1,7 @@
 -- `printer::atoms::put_symbol`: the bytes behind the head.
 use borrow.Author.Needs.{needs}
 use Rattle.table.proofs.Checking.{part}
-use Rattle.printer.proofs.ShortRooms.{puts-fitted}
+use Rattle.lists.proofs.Rooms.{puts-fitted}
 use Rattle.printer.proofs.atoms.put_symbol.Statement.{statement}
 use Rattle.printer.proofs.atoms.put_symbol.Tie as tie
 

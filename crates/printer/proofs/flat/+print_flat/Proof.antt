@@ -20,7 +20,7 @@ use Rattle.printer.proofs.flat.symbol_at.Reads as symbol-at-reads
 use Rattle.printer.proofs.atoms.put_integer.Reads as put-integer-reads
 use Rattle.printer.proofs.atoms.put_name.Reads as put-name-reads
 use Rattle.printer.proofs.atoms.put_symbol.Reads as put-symbol-reads
-use Rattle.printer.proofs.room.least.Reads as least-reads
+use Rattle.lists.proofs.least.Reads as least-reads
 use Rattle.printer.proofs.room.put_byte.Reads as put-byte-reads
 use Rattle.printer.proofs.room.put_unless.Reads as put-unless-reads
 use Rattle.table.proofs.record_at.Reads as record-at-reads

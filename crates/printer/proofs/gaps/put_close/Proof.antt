@@ -1,7 +1,8 @@
 -- `printer::gaps::put_close`: one line for each kind of end.
 use mathlib.Core.List.{_∷_, []}
 use Rattle.printer.specs.Layout.{bytes, nl}
-use Rattle.printer.proofs.ShortRooms.{puts-both, break-size}
+use Rattle.lists.proofs.Rooms.{puts-both}
+use Rattle.printer.proofs.ShortRooms.{break-size}
 use Prim.Native.Nat.{_*_}
 use native.Mathlib.Omega.{arith}
 use borrow.Author.Needs.{needs}
