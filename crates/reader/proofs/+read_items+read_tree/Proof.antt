@@ -10,8 +10,9 @@ use borrow.Fn.PlainCycle.{Measures, is, falls, and}
 use borrow.Rule.Slice.PartMut.{same-len-mid}
 use Rattle.lexer.specs.Tokens.{Answer, answerOf}
 use Rattle.lexer.specs.Lexing.{nextToken}
+use Rattle.records.specs.Records.{headLen}
 use Rattle.reader.specs.Grammar.{readTree, readItems}
-use Rattle.reader.proofs.Bounds.{place, weigh-top}
+use Rattle.reader.proofs.Bounds.{place, weigh-top, Spans}
 use Rattle.reader.proofs.Walk.{Going, starts, size-top, close-turn, end-turn, its-end, its-small, next-small, symbol-spans, symbol-turn, deep-turn, bind-spans, bind-turn, no-tree-turn, told-spans, told-turn, seen-as, left-true}
 use Rattle.reader.proofs.AtHand.{end-hand, refused-hand, close-hand, sign-hand, deep-hand, symbol-hand, int-hand, past-hand, items-on, no-items-hand, open-hand, items-small, listed-hand}
 use Rattle.reader.proofs.read_items.Reads as read-items
@@ -76,7 +77,6 @@ read-items-returns : (t : ℕ) → read-items-lts.Need-returns (read-items-calls
 read-items-returns t c =
     let g = c .before .before .before .before in
     let l = g .before .loop in
-    let a = g .before .before .before .before .before .args in
     let h = seen-as _ _ _ _ (g .glance .ensures) (c .before .before .seen .given .1) in
     rw (c .items .ensures) (close-turn (l .inv) _ (h .0) (h .1))
 
@@ -84,7 +84,6 @@ read-items-returns-2 : (t : ℕ) → read-items-lts.Need-returns-2 (read-items-c
 read-items-returns-2 t c =
     let g = c .before .before .before in
     let l = g .before .loop in
-    let a = g .before .before .before .before .before .args in
     let h = seen-as _ _ _ _ (g .glance .ensures) (c .before .enum-told .given .1) in
     rw (c .items2 .ensures) (end-turn (l .inv) 0 (h .0) (h .1))
 
@@ -92,7 +91,6 @@ read-items-add-end : (t : ℕ) → read-items-lts.Need-add-end (read-items-calls
 read-items-add-end t c =
     let g = c .before .before .before in
     let l = g .before .loop in
-    let a = g .before .before .before .before .before .args in
     let h = seen-as _ _ _ _ (g .glance .ensures) (c .before .seen2 .given .1) in
     omega (arith, its-end (l .inv) _ _ h, its-small (l .inv) _ _ h)
 
@@ -100,7 +98,6 @@ read-items-sign-of-requires : (t : ℕ) → read-items-lts.Need-sign-of-requires
 read-items-sign-of-requires t c κs =
     let g = c .before .before .before .before in
     let l = g .before .loop in
-    let a = g .before .before .before .before .before .args in
     let h = seen-as _ _ _ _ (g .glance .ensures) (c .before .before .seen2 .given .1) in
     next-small (l .inv) _ _ h _ (c .next-token2 .ensures)
 
@@ -108,70 +105,41 @@ read-items-name-requires : (t : ℕ) → read-items-lts.Need-name-requires (read
 read-items-name-requires t c κs =
     let g = c .before .before .before .before .before .before .before .before in
     let l = g .before .loop in
-    let a = g .before .before .before .before .before .args in
     let h = seen-as _ _ _ _ (g .glance .ensures) (c .before .before .before .before .before .before .seen2 .given .1) in
     (omega arith, its-end (l .inv) _ _ h, omega (arith, its-end (l .inv) _ _ h, its-small (l .inv) _ _ h), size-top (l .inv) (its-small (l .inv) _ _ h))
 
-read-items-add-n : (t : ℕ) → read-items-lts.Need-add-n (read-items-calls t) (read-items-at t) read-items.Post read-items-Inv-loop read-items-μ-loop
-read-items-add-n t c =
+-- the token after the symbol, the name or the tree that was read
+past-symbol : (t : ℕ) (c : read-items-lts.After-slice-known2 (read-items-calls t) (read-items-at t) read-items.Post read-items-Inv-loop read-items-μ-loop)
+    → Spans (c .before .before .before .before .before .before .before .before .before .before .before .before .before .before .before .before .args .src .now) (answerOf (c .before .before .before .before .before .before .before .before .before .before .before .before .loop .tok)) (answerOf (c .before .before .before .before .before .before .before .next-token2 .result)) (c .before .before .before .before .before .before .before .before .before .seen2 .given .0 .1 .0 + headLen)
+past-symbol t c =
     let g = c .before .before .before .before .before .before .before .before .before .before .before in
     let l = g .before .loop in
-    let a = g .before .before .before .before .before .args in
     let h = seen-as _ _ _ _ (g .glance .ensures) (c .before .before .before .before .before .before .before .before .before .seen2 .given .1) in
-    let n2 = c .before .before .before .before .before .before in
-    let sg = sym (n2 .sign-of .ensures) ∙ c .before .before .before .before .enum-told2 .given .1 in
-    let q = symbol-spans (l .inv) _ _ h _ (n2 .before .next-token2 .ensures) sg in
-    omega (arith, q .on, q .top, q .small, l .inv .on)
+    symbol-spans (l .inv) _ _ h _ (c .before .before .before .before .before .before .before .next-token2 .ensures) (sym (c .before .before .before .before .before .before .sign-of .ensures) ∙ c .before .before .before .before .enum-told2 .given .1)
+
+read-items-add-n : (t : ℕ) → read-items-lts.Need-add-n (read-items-calls t) (read-items-at t) read-items.Post read-items-Inv-loop read-items-μ-loop
+read-items-add-n t c = let q = past-symbol t c in omega (arith, q .on, q .top, q .small, c .before .before .before .before .before .before .before .before .before .before .before .before .loop .inv .on)
 
 read-items-add-size : (t : ℕ) → read-items-lts.Need-add-size (read-items-calls t) (read-items-at t) read-items.Post read-items-Inv-loop read-items-μ-loop
-read-items-add-size t c =
-    let g = c .before .before .before .before .before .before .before .before .before .before .before in
-    let l = g .before .loop in
-    let a = g .before .before .before .before .before .args in
-    let h = seen-as _ _ _ _ (g .glance .ensures) (c .before .before .before .before .before .before .before .before .before .seen2 .given .1) in
-    let n2 = c .before .before .before .before .before .before in
-    let sg = sym (n2 .sign-of .ensures) ∙ c .before .before .before .before .enum-told2 .given .1 in
-    let q = symbol-spans (l .inv) _ _ h _ (n2 .before .next-token2 .ensures) sg in
-    omega (arith, its-end (l .inv) _ _ h, q .small)
+read-items-add-size t c = let q = past-symbol t c in omega (arith, q .size, q .small, weigh-top _ _ (q .lexes))
 
 read-items-add-size-2 : (t : ℕ) → read-items-lts.Need-add-size-2 (read-items-calls t) (read-items-at t) read-items.Post read-items-Inv-loop read-items-μ-loop
-read-items-add-size-2 t c =
-    let g = c .before .before .before .before .before .before .before .before .before .before .before in
-    let l = g .before .loop in
-    let a = g .before .before .before .before .before .args in
-    let h = seen-as _ _ _ _ (g .glance .ensures) (c .before .before .before .before .before .before .before .before .before .seen2 .given .1) in
-    let n2 = c .before .before .before .before .before .before in
-    let sg = sym (n2 .sign-of .ensures) ∙ c .before .before .before .before .enum-told2 .given .1 in
-    let q = symbol-spans (l .inv) _ _ h _ (n2 .before .next-token2 .ensures) sg in
-    omega (arith, q .size, q .small, weigh-top _ _ (q .lexes), l .inv .weighs)
+read-items-add-size-2 t c = let q = past-symbol t c in omega (arith, q .size, q .small, weigh-top _ _ (q .lexes), c .before .before .before .before .before .before .before .before .before .before .before .before .loop .inv .weighs)
 
 read-items-loop-less : (t : ℕ) → read-items-lts.Need-loop-less (read-items-calls t) (read-items-at t) read-items.Post read-items-Inv-loop read-items-μ-loop
-read-items-loop-less t c =
-    let g = c .before .before .before .before .before .before .before .before .before .before .before in
-    let l = g .before .loop in
-    let a = g .before .before .before .before .before .args in
-    let h = seen-as _ _ _ _ (g .glance .ensures) (c .before .before .before .before .before .before .before .before .before .seen2 .given .1) in
-    let n2 = c .before .before .before .before .before .before in
-    let sg = sym (n2 .sign-of .ensures) ∙ c .before .before .before .before .enum-told2 .given .1 in
-    let q = symbol-spans (l .inv) _ _ h _ (n2 .before .next-token2 .ensures) sg in
-    omega (arith, q .on, q .top)
+read-items-loop-less t c = let q = past-symbol t c in omega (arith, q .on, q .top)
 
 read-items-loop-again : (t : ℕ) → read-items-lts.Need-loop-again (read-items-calls t) (read-items-at t) read-items.Post read-items-Inv-loop read-items-μ-loop
 read-items-loop-again t c =
     let g = c .before .before .before .before .before .before .before .before .before .before .before in
     let l = g .before .loop in
-    let a = g .before .before .before .before .before .args in
     let h = seen-as _ _ _ _ (g .glance .ensures) (c .before .before .before .before .before .before .before .before .before .seen2 .given .1) in
-    let n2 = c .before .before .before .before .before .before in
-    let sg = sym (n2 .sign-of .ensures) ∙ c .before .before .before .before .enum-told2 .given .1 in
-    let q = symbol-spans (l .inv) _ _ h _ (n2 .before .next-token2 .ensures) sg in
-    symbol-turn (l .inv) _ _ h _ (n2 .before .next-token2 .ensures) sg _ (c .before .before .name .ensures) (search needs)
+    symbol-turn (l .inv) _ _ h _ (c .before .before .before .before .before .before .before .next-token2 .ensures) (sym (c .before .before .before .before .before .before .sign-of .ensures) ∙ c .before .before .before .before .enum-told2 .given .1) _ (c .before .before .name .ensures) (search needs)
 
 read-items-returns-3 : (t : ℕ) → read-items-lts.Need-returns-3 (read-items-calls t) (read-items-at t) read-items.Post read-items-Inv-loop read-items-μ-loop
 read-items-returns-3 t c =
     let g = c .before .before .before .before .before .before .before .before .before .before in
     let l = g .before .loop in
-    let a = g .before .before .before .before .before .args in
     let h = seen-as _ _ _ _ (g .glance .ensures) (c .before .before .before .before .before .before .before .before .seen2 .given .1) in
     rw (c .no-items .ensures) (deep-turn (l .inv) _ _ h _ (c .before .before .before .before .before .before .next-token2 .ensures) _ (sym (c .before .before .before .before .before .sign-of .ensures) ∙ c .before .before .before .sign .given .1) (c .before .if1 .taken))
 
@@ -179,59 +147,37 @@ read-items-name-requires-2 : (t : ℕ) → read-items-lts.Need-name-requires-2 (
 read-items-name-requires-2 t c κs =
     let g = c .before .before .before .before .before .before .before .before .before .before in
     let l = g .before .loop in
-    let a = g .before .before .before .before .before .args in
     let h = seen-as _ _ _ _ (g .glance .ensures) (c .before .before .before .before .before .before .before .before .seen2 .given .1) in
     (omega arith, its-end (l .inv) _ _ h, omega (arith, its-end (l .inv) _ _ h, its-small (l .inv) _ _ h), size-top (l .inv) (its-small (l .inv) _ _ h))
 
-read-items-add-size-3 : (t : ℕ) → read-items-lts.Need-add-size-3 (read-items-calls t) (read-items-at t) read-items.Post read-items-Inv-loop read-items-μ-loop
-read-items-add-size-3 t c =
+past-name : (t : ℕ) (c : read-items-lts.After-next-token3 (read-items-calls t) (read-items-at t) read-items.Post read-items-Inv-loop read-items-μ-loop)
+    → Spans (c .before .before .before .before .before .before .before .before .before .before .before .before .before .before .before .before .before .before .before .args .src .now) (answerOf (c .before .before .before .before .before .before .before .before .before .before .before .before .before .before .before .loop .tok)) (answerOf (c .next-token3 .result)) (c .before .before .before .before .before .before .before .before .before .before .before .before .seen2 .given .0 .1 .0 + headLen)
+past-name t c =
     let g = c .before .before .before .before .before .before .before .before .before .before .before .before .before .before in
     let l = g .before .loop in
-    let a = g .before .before .before .before .before .args in
     let h = seen-as _ _ _ _ (g .glance .ensures) (c .before .before .before .before .before .before .before .before .before .before .before .before .seen2 .given .1) in
-    let n2 = c .before .before .before .before .before .before .before .before .before in
-    let sg = sym (n2 .sign-of .ensures) ∙ c .before .before .before .before .before .before .before .sign .given .1 in
-    let q = bind-spans (l .inv) _ _ h _ (n2 .before .next-token2 .ensures) _ sg _ (c .next-token3 .ensures) in
-    omega (arith, its-end (l .inv) _ _ h, q .small)
+    bind-spans (l .inv) _ _ h _ (c .before .before .before .before .before .before .before .before .before .before .next-token2 .ensures) _ (sym (c .before .before .before .before .before .before .before .before .before .sign-of .ensures) ∙ c .before .before .before .before .before .before .before .sign .given .1) _ (c .next-token3 .ensures)
+
+read-items-add-size-3 : (t : ℕ) → read-items-lts.Need-add-size-3 (read-items-calls t) (read-items-at t) read-items.Post read-items-Inv-loop read-items-μ-loop
+read-items-add-size-3 t c = let q = past-name t c in omega (arith, q .size, q .small, weigh-top _ _ (q .lexes))
 
 read-items-add-size-4 : (t : ℕ) → read-items-lts.Need-add-size-4 (read-items-calls t) (read-items-at t) read-items.Post read-items-Inv-loop read-items-μ-loop
-read-items-add-size-4 t c =
-    let g = c .before .before .before .before .before .before .before .before .before .before .before .before .before .before in
-    let l = g .before .loop in
-    let a = g .before .before .before .before .before .args in
-    let h = seen-as _ _ _ _ (g .glance .ensures) (c .before .before .before .before .before .before .before .before .before .before .before .before .seen2 .given .1) in
-    let n2 = c .before .before .before .before .before .before .before .before .before in
-    let sg = sym (n2 .sign-of .ensures) ∙ c .before .before .before .before .before .before .before .sign .given .1 in
-    let q = bind-spans (l .inv) _ _ h _ (n2 .before .next-token2 .ensures) _ sg _ (c .next-token3 .ensures) in
-    omega (arith, q .size, q .small, weigh-top _ _ (q .lexes), l .inv .weighs)
+read-items-add-size-4 t c = let q = past-name t c in omega (arith, q .size, q .small, weigh-top _ _ (q .lexes), c .before .before .before .before .before .before .before .before .before .before .before .before .before .before .before .loop .inv .weighs)
 
 read-items-loop-less-2 : (t : ℕ) → read-items-lts.Need-loop-less-2 (read-items-calls t) (read-items-at t) read-items.Post read-items-Inv-loop read-items-μ-loop
-read-items-loop-less-2 t c =
-    let g = c .before .before .before .before .before .before .before .before .before .before .before .before .before .before in
-    let l = g .before .loop in
-    let a = g .before .before .before .before .before .args in
-    let h = seen-as _ _ _ _ (g .glance .ensures) (c .before .before .before .before .before .before .before .before .before .before .before .before .seen2 .given .1) in
-    let n2 = c .before .before .before .before .before .before .before .before .before in
-    let sg = sym (n2 .sign-of .ensures) ∙ c .before .before .before .before .before .before .before .sign .given .1 in
-    let q = bind-spans (l .inv) _ _ h _ (n2 .before .next-token2 .ensures) _ sg _ (c .next-token3 .ensures) in
-    omega (arith, q .on, q .top)
+read-items-loop-less-2 t c = let q = past-name t c in omega (arith, q .on, q .top)
 
 read-items-loop-again-2 : (t : ℕ) → read-items-lts.Need-loop-again-2 (read-items-calls t) (read-items-at t) read-items.Post read-items-Inv-loop read-items-μ-loop
 read-items-loop-again-2 t c =
     let g = c .before .before .before .before .before .before .before .before .before .before .before .before .before .before in
     let l = g .before .loop in
-    let a = g .before .before .before .before .before .args in
     let h = seen-as _ _ _ _ (g .glance .ensures) (c .before .before .before .before .before .before .before .before .before .before .before .before .seen2 .given .1) in
-    let n2 = c .before .before .before .before .before .before .before .before .before in
-    let sg = sym (n2 .sign-of .ensures) ∙ c .before .before .before .before .before .before .before .sign .given .1 in
-    let q = bind-spans (l .inv) _ _ h _ (n2 .before .next-token2 .ensures) _ sg _ (c .next-token3 .ensures) in
-    bind-turn (l .inv) _ _ h _ (n2 .before .next-token2 .ensures) _ sg _ (c .next-token3 .ensures) _ (c .before .before .before .before .before .if1 .left) (c .before .before .before .name2 .ensures) (search needs)
+    bind-turn (l .inv) _ _ h _ (c .before .before .before .before .before .before .before .before .before .before .next-token2 .ensures) _ (sym (c .before .before .before .before .before .before .before .before .before .sign-of .ensures) ∙ c .before .before .before .before .before .before .before .sign .given .1) _ (c .next-token3 .ensures) _ (c .before .before .before .before .before .if1 .left) (c .before .before .before .name2 .ensures) (search needs)
 
 read-items-read-tree-requires : (t : ℕ) → read-items-lts.Need-read-tree-requires (read-items-calls t) (read-items-at t) read-items.Post read-items-Inv-loop read-items-μ-loop
 read-items-read-tree-requires t c κs =
     let g = c .before .before .before .before in
     let l = g .before .loop in
-    let a = g .before .before .before .before .before .args in
     let h = seen-as _ _ _ _ (g .glance .ensures) (c .before .before .enum-told3 .given .1) in
     (omega (arith, g .before .before .before .before .before .pre .0, l .inv .on), (l .inv .lexes, left-true (ltb 0 (l .due)) (answerOf (l .tok)) h))
 
@@ -239,49 +185,33 @@ read-items-returns-4 : (t : ℕ) → read-items-lts.Need-returns-4 (read-items-c
 read-items-returns-4 t c =
     let g = c .before .before .before .before .before .before .before .before .before in
     let l = g .before .loop in
-    let a = g .before .before .before .before .before .args in
     let h = seen-as _ _ _ _ (g .glance .ensures) (c .before .before .before .before .before .before .before .enum-told3 .given .1) in
     let r = c .before .before .before .before in
     rw (c .no-items2 .ensures) (no-tree-turn (l .inv) h _ _ _ _ _ _ (r .read-tree .ensures) (c .before .if2 .taken))
 
-read-items-add-n-2 : (t : ℕ) → read-items-lts.Need-add-n-2 (read-items-calls t) (read-items-at t) read-items.Post read-items-Inv-loop read-items-μ-loop
-read-items-add-n-2 t c =
+past-tree : (t : ℕ) (c : read-items-lts.After-next-token4 (read-items-calls t) (read-items-at t) read-items.Post read-items-Inv-loop read-items-μ-loop)
+    → Spans (c .before .before .before .before .before .before .before .before .before .before .before .before .before .before .args .src .now) (answerOf (c .before .before .before .before .before .before .before .before .before .before .loop .tok)) (answerOf (c .next-token4 .result)) (c .before .before .before .before .read-tree .result .size)
+past-tree t c =
     let g = c .before .before .before .before .before .before .before .before .before in
     let l = g .before .loop in
-    let a = g .before .before .before .before .before .args in
     let h = seen-as _ _ _ _ (g .glance .ensures) (c .before .before .before .before .before .before .before .enum-told3 .given .1) in
-    let r = c .before .before .before .before in
-    let q = told-spans (l .inv) h _ _ _ _ _ _ (r .read-tree .ensures) (c .before .if2 .left) _ (c .next-token4 .ensures) in
-    omega (arith, q .on, q .top, q .small, l .inv .on)
+    told-spans (l .inv) h _ _ _ _ _ _ (c .before .before .before .before .read-tree .ensures) (c .before .if2 .left) _ (c .next-token4 .ensures)
+
+read-items-add-n-2 : (t : ℕ) → read-items-lts.Need-add-n-2 (read-items-calls t) (read-items-at t) read-items.Post read-items-Inv-loop read-items-μ-loop
+read-items-add-n-2 t c = let q = past-tree t c in omega (arith, q .on, q .top, q .small, c .before .before .before .before .before .before .before .before .before .before .loop .inv .on)
 
 read-items-add-size-5 : (t : ℕ) → read-items-lts.Need-add-size-5 (read-items-calls t) (read-items-at t) read-items.Post read-items-Inv-loop read-items-μ-loop
-read-items-add-size-5 t c =
-    let g = c .before .before .before .before .before .before .before .before .before .before in
-    let l = g .before .loop in
-    let a = g .before .before .before .before .before .args in
-    let h = seen-as _ _ _ _ (g .glance .ensures) (c .before .before .before .before .before .before .before .before .enum-told3 .given .1) in
-    let r = c .before .before .before .before .before in
-    let q = told-spans (l .inv) h _ _ _ _ _ _ (r .read-tree .ensures) (c .before .before .if2 .left) _ (c .before .next-token4 .ensures) in
-    omega (arith, q .size, q .small, weigh-top _ _ (q .lexes), l .inv .weighs)
+read-items-add-size-5 t c = let q = past-tree t (c .before) in omega (arith, q .size, q .small, weigh-top _ _ (q .lexes), c .before .before .before .before .before .before .before .before .before .before .before .loop .inv .weighs)
 
 read-items-loop-less-3 : (t : ℕ) → read-items-lts.Need-loop-less-3 (read-items-calls t) (read-items-at t) read-items.Post read-items-Inv-loop read-items-μ-loop
-read-items-loop-less-3 t c =
-    let g = c .before .before .before .before .before .before .before .before .before .before in
-    let l = g .before .loop in
-    let a = g .before .before .before .before .before .args in
-    let h = seen-as _ _ _ _ (g .glance .ensures) (c .before .before .before .before .before .before .before .before .enum-told3 .given .1) in
-    let r = c .before .before .before .before .before in
-    let q = told-spans (l .inv) h _ _ _ _ _ _ (r .read-tree .ensures) (c .before .before .if2 .left) _ (c .before .next-token4 .ensures) in
-    omega (arith, q .on, q .top)
+read-items-loop-less-3 t c = let q = past-tree t (c .before) in omega (arith, q .on, q .top)
 
 read-items-loop-again-3 : (t : ℕ) → read-items-lts.Need-loop-again-3 (read-items-calls t) (read-items-at t) read-items.Post read-items-Inv-loop read-items-μ-loop
 read-items-loop-again-3 t c =
     let g = c .before .before .before .before .before .before .before .before .before .before in
     let l = g .before .loop in
-    let a = g .before .before .before .before .before .args in
     let h = seen-as _ _ _ _ (g .glance .ensures) (c .before .before .before .before .before .before .before .before .enum-told3 .given .1) in
     let r = c .before .before .before .before .before in
-    let q = told-spans (l .inv) h _ _ _ _ _ _ (r .read-tree .ensures) (c .before .before .if2 .left) _ (c .before .next-token4 .ensures) in
     told-turn (l .inv) h _ _ _ _ _ _ (r .read-tree .ensures) (c .before .before .if2 .left) _ (c .before .next-token4 .ensures) _ refl (r .before .before .least .ensures .1) (search needs)
 
 read-tree-add-tree : (t : ℕ) → read-tree-lts.Need-add-tree (read-tree-calls t) (read-tree-at t) read-tree.Post
@@ -293,7 +223,6 @@ read-tree-add-tree t c =
 
 read-tree-returns : (t : ℕ) → read-tree-lts.Need-returns (read-tree-calls t) (read-tree-at t) read-tree.Post
 read-tree-returns t c =
-    let a = c .before .before .before .before .before .before .before .before .before in
     let e = c .before .before .before .before .before .tok2 .given .1 in
     rw (c .no-tree6 .ensures) (deep-hand _ _ _ _ _ e (c .before .before .enum-told5 .given .1) (c .before .if1 .taken))
 
@@ -329,23 +258,19 @@ read-tree-add-tree-3 t c =
 
 read-tree-returns-2 : (t : ℕ) → read-tree-lts.Need-returns-2 (read-tree-calls t) (read-tree-at t) read-tree.Post
 read-tree-returns-2 t c =
-    let a = c .before .before .before .before .before in
     rw (c .no-tree .ensures) (end-hand _ _ _ (c .before .enum-told .given .1))
 
 read-tree-returns-3 : (t : ℕ) → read-tree-lts.Need-returns-3 (read-tree-calls t) (read-tree-at t) read-tree.Post
 read-tree-returns-3 t c =
-    let a = c .before .before .before .before .before .before in
     rw (c .no-tree2 .ensures) (refused-hand _ _ _ _ (c .before .before .tok .given .1))
 
 read-tree-returns-4 : (t : ℕ) → read-tree-lts.Need-returns-4 (read-tree-calls t) (read-tree-at t) read-tree.Post
 read-tree-returns-4 t c =
-    let a = c .before .before .before .before .before .before .before .before in
     let e = c .before .before .before .before .tok2 .given .1 in
     rw (c .no-tree3 .ensures) (close-hand _ _ _ _ _ e (c .before .enum-told2 .given .1))
 
 read-tree-returns-5 : (t : ℕ) → read-tree-lts.Need-returns-5 (read-tree-calls t) (read-tree-at t) read-tree.Post
 read-tree-returns-5 t c =
-    let a = c .before .before .before .before .before .before .before .before in
     let e = c .before .before .before .before .tok2 .given .1 in
     rw (c .no-tree4 .ensures) (sign-hand _ _ _ _ _ e (c .before .enum-told3 .given .1))
 
@@ -357,7 +282,6 @@ read-tree-returns-6 t c =
 
 read-tree-returns-7 : (t : ℕ) → read-tree-lts.Need-returns-7 (read-tree-calls t) (read-tree-at t) read-tree.Post
 read-tree-returns-7 t c =
-    let a = c .before .before .before .before .before .before .before .before .before .before .before .before .before in
     let e = c .before .before .before .before .before .before .before .before .before .tok2 .given .1 in
     rw (c .tree .ensures) (int-hand _ _ _ _ _ e _ _ _ _ (c .before .before .before .before .before .before .t .given .1) (c .before .before .before .integer .ensures))
 
