@@ -12,7 +12,7 @@ use borrow.Rule.Slice.PartMut.{putMid}
 use Rattle.refusals.specs.Numbers.{sourceLimit, tableLimit, tooDeep}
 use Rattle.refusals.specs.Result.{Result, ok, refused, andThen}
 use Rattle.lists.specs.Over.{over}
-use Rattle.lists.proofs.Writing.{Wrote, wrote-none, wrote-lent, part-length}
+use Rattle.lists.proofs.Rooms.{puts-both}
 use Rattle.lexer.specs.Tokens.{Kind, lparen, rparen, at-sign, symbol, int, token, Answer, end, is}
 use Rattle.lexer.specs.Lexing.{nextToken}
 use Rattle.lexer.proofs.Within.{limited}
@@ -21,7 +21,7 @@ use Rattle.records.proofs.Heads.{length-record}
 use Rattle.table.specs.Kinds.{symbolKind, bindingKind}
 use Rattle.table.specs.Trees.{Tree, Trees, symbol as symbolTree, binding, count, records, recordsOf}
 use Rattle.reader.specs.Grammar.{One, got, closed, ended, Many, upTo, toEnd, cons, onward, bound, nameOf, after, readItems, readTree}
-use Rattle.lists.specs.Rooms.{Filled}
+use Rattle.lists.specs.Rooms.{Filled, Puts}
 use Rattle.reader.specs.PrivateWalk.{Lexes, due, FilledFrom, TreeTold, ItemsTold, LeftKind, LeftOver, Seen, signOf, pastOf}
 use Rattle.reader.specs.declared.parts.Look.{Look}
 use Rattle.reader.specs.declared.parts.Stop.the-variants as stop
@@ -95,27 +95,18 @@ awaited-bound s true n (refused m p) = refl
 
 -- ---- what is written
 
--- bytes were put into the rest of the room from r, its first free byte where the room is long enough
-wrote-rest : {o b₀ b : List ℕ} {w : ℕ} → (w ≤ length b₀ → Wrote o b₀ b w) → length b ≡ length b₀ → (o′ ys : List ℕ) (n r : ℕ) → (w ≤ length b → r ≡ w)
-    → n ≡ length o′ → Filled o′ (take (length b - r) (drop r b)) ys → w + n ≤ length b₀ → Wrote (o ++ o′) b₀ (putMid r (length b - r) b ys) (w + n)
-wrote-rest {o} {b₀} {b} {w} h k o′ ys n r er en f l =
-    let e : r ≡ w = er (omega arith) in
-    let there : Filled o′ (take (length b - w) (drop w b)) ys → Wrote (o ++ o′) b₀ (putMid w (length b - w) b ys) (w + n) =
-    λ g. wrote-lent (h (omega arith)) o′ ys n (sym en) l (g (rw (part-length w b) (omega arith))) in
-    subst⁻¹ (λ (j : ℕ). Filled o′ (take (length b - j) (drop j b)) ys → Wrote (o ++ o′) b₀ (putMid j (length b - j) b ys) (w + n)) e there f
-
-wrote-from : {o b₀ b : List ℕ} {w : ℕ} → (w ≤ length b₀ → Wrote o b₀ b w) → length b ≡ length b₀ → (o′ b′ : List ℕ) → FilledFrom w o′ b b′
-    → w + length o′ ≤ length b₀ → Wrote (o ++ o′) b₀ b′ (w + length o′)
-wrote-from {o} {b₀} {b} {w} h k o′ b′ f l =
-    let m = h (omega arith) in
-    let front : take w b ≡ o = ap (take w) (m .holds) ∙ take-at o (drop (length o) b₀) w (m .size) in
-    let back : drop w b ≡ drop w b₀ = ap (drop w) (m .holds) ∙ drop-at o (drop (length o) b₀) w (m .size) ∙ ap (λ (j : ℕ). drop j b₀) (m .size) in
-    record {
-      size = simp length-append (omega (arith, m .size));
-      within = l;
-      holds = f (omega arith) ∙ rw (front, back) (ap (λ (r : List ℕ). o ++ (o′ ++ r)) (drop-drop (length o′) w b₀)
-          ∙ rw (length-append o o′, m .size) (sym (append-assoc o o′ (drop (w + length o′) b₀))));
-    }
+-- bytes were put from the first free byte on
+puts-from : (o o′ b₀ b b′ : List ℕ) (w : ℕ) → Puts o w b₀ b → length b ≡ length b₀ → FilledFrom w o′ b b′ → Puts (o ++ o′) (w + length o′) b₀ b′
+puts-from o o′ b₀ b b′ w p k f =
+    let n : length (o ++ o′) ≡ w + length o′ = length-append o o′ ∙ ap (λ (i : ℕ). i + length o′) (sym (p .0)) in (
+      sym n,
+      λ l.
+          let h : b ≡ over o b₀ = p .1 (omega (arith, p .0)) in
+          let front : take w b ≡ o = ap (take w) h ∙ take-at o (drop (length o) b₀) w (sym (p .0)) in
+          let back : drop w b ≡ drop w b₀ = ap (drop w) h ∙ drop-at o (drop (length o) b₀) w (sym (p .0)) ∙ ap (λ (j : ℕ). drop j b₀) (sym (p .0)) in
+          f (omega arith) ∙ rw (front, back) (ap (λ (r : List ℕ). o ++ (o′ ++ r)) (drop-drop (length o′) w b₀)
+          ∙ rw n (sym (append-assoc o o′ (drop (w + length o′) b₀)))),
+    )
 
 -- ---- the turns
 
@@ -129,8 +120,7 @@ pub record Going (s : List ℕ) (depth : ℕ) (w : Result Many) (a₀ : Answer) 
   pub deep : j ≤ depth
   pub weighs : 2 * size + weigh (length s) a₀ ≤ weigh (length s) a
   pub o : List ℕ
-  pub size-is : length o ≡ size
-  pub wrote : size ≤ length b₀ → Wrote o b₀ b size
+  pub puts : Puts o size b₀ b
   pub same : length b ≡ length b₀
   pub left : Left n o w (readItems (readTree s depth) (length s - n)) (awaited s (ltb 0 j) (readTree s (depth - j) a))
 
@@ -147,8 +137,7 @@ starts s depth a b h =
       deep = omega arith;
       weighs = omega arith;
       o = [];
-      size-is = refl;
-      wrote = λ _. wrote-none b;
+      puts = (refl, λ _. refl);
       same = refl;
       left = rw (e, d) (left-of 0 [] (readItems f (suc (length s)) a) (readItems f (length s)) (f a) (before-all (readItems f (suc (length s)) a)));
     }
@@ -163,7 +152,7 @@ module _ {s : List ℕ} {depth : ℕ} {w : Result Many} {a₀ : Answer} {b₀ : 
 
   -- a tree was read, and its records stand in the room
   pub tree-turn : (x : Tree) (c : Answer) (k : ℕ) (b′ : List ℕ) → here ≡ ok (got x c) → Spans s a c (length (records x)) → k ≡ length (records x)
-      → (size + k ≤ length b₀ → Wrote (g .o ++ records x) b₀ b′ (size + k)) → length b′ ≡ length b₀ → Going s depth w a₀ b₀ c 0 (n + 1) (size + k) b′
+      → Puts (g .o ++ records x) (size + k) b₀ b′ → length b′ ≡ length b₀ → Going s depth w a₀ b₀ c 0 (n + 1) (size + k) b′
   unfolding readItems
   tree-turn x c k b′ e q ek m l =
       let f : Answer → Result One = readTree s depth in
@@ -177,8 +166,7 @@ module _ {s : List ℕ} {depth : ℕ} {w : Result Many} {a₀ : Answer} {b₀ : 
         deep = omega arith;
         weighs = omega (arith, q .size, g .weighs);
         o = g .o ++ records x;
-        size-is = length-append (g .o) (records x) ∙ omega (arith, g .size-is);
-        wrote = m;
+        puts = m;
         same = l;
         left = rw d (left-of (n + 1) (g .o ++ records x) w (readItems f (length s - (n + 1))) (f c)
             (subst (λ (i : ℕ). Before (n + 1) (g .o ++ records x) w (readItems f i c)) one h));
@@ -190,21 +178,21 @@ module _ {s : List ℕ} {depth : ℕ} {w : Result Many} {a₀ : Answer} {b₀ : 
 
   -- the records of trees in a row are those that were written
   filled : (ys : Trees) → recordsOf ys ≡ g .o → Filled (recordsOf ys) b₀ b
-  filled ys e l = g .wrote (omega (arith, ap length e, g .size-is)) .holds ∙ ap (λ (r : List ℕ). over r b₀) (sym e)
+  filled ys e l = g .puts .1 (omega (arith, ap length e)) ∙ ap (λ (r : List ℕ). over r b₀) (sym e)
 
   pub close-turn : (p : ℕ) → a ≡ ok (is (token rparen p 1)) → ltb 0 j ≡ false → ItemsTold w stop.Close 0 p n size b₀ b
   close-turn p e f =
       let h : here ≡ ok (closed (token rparen p 1)) =
       ap (λ (d : Bool). awaited s d (readTree s (depth - j) a)) f ∙ ap (readTree s (depth - j)) e ∙ read-rparen s (depth - j) (token rparen p 1) refl in
       let k = subst (Left n (g .o) w (readItems (readTree s depth) (length s - n))) h (g .left) in
-      (k .0, token rparen p 1, k .1, refl, sym (k .2), sym (ap length (k .3) ∙ g .size-is), filled (k .0) (k .3))
+      (k .0, token rparen p 1, k .1, refl, sym (k .2), g .puts .0 ∙ sym (ap length (k .3)), filled (k .0) (k .3))
 
   pub end-turn : (p : ℕ) → a ≡ ok end → ltb 0 j ≡ false → ItemsTold w stop.End 0 p n size b₀ b
   end-turn p e f =
       let h : here ≡ ok ended =
       ap (λ (d : Bool). awaited s d (readTree s (depth - j) a)) f ∙ ap (readTree s (depth - j)) e ∙ read-end s (depth - j) in
       let k = subst (Left n (g .o) w (readItems (readTree s depth) (length s - n))) h (g .left) in
-      (k .0, k .1, sym (ap length (k .2) ∙ g .size-is), filled (k .0) (k .2))
+      (k .0, k .1, g .puts .0 ∙ sym (ap length (k .2)), filled (k .0) (k .2))
 
   -- the token is a symbol of m bytes, and c the token after it
   module _ (p m : ℕ) (e : a ≡ ok (is (token symbol p m))) where
@@ -225,11 +213,11 @@ module _ {s : List ℕ} {depth : ℕ} {w : Result Many} {a₀ : Answer} {b₀ : 
 
     -- its record, as the code puts it
     its-record : (k : ℕ) (b′ : List ℕ) → FilledFrom size (record-of k (take (p + m - p) (drop p s))) b b′
-        → size + (m + headLen) ≤ length b₀ → Wrote (g .o ++ record-of k its) b₀ b′ (size + (m + headLen))
+        → Puts (g .o ++ record-of k its) (size + (m + headLen)) b₀ b′
     its-record k b′ f =
         let d : p + m - p ≡ m = omega arith in
-        subst⁻¹ (λ (i : ℕ). size + i ≤ length b₀ → Wrote (g .o ++ record-of k its) b₀ b′ (size + i)) (its-length k)
-        (wrote-from (g .wrote) (g .same) (record-of k its) b′ (subst (λ (i : ℕ). FilledFrom size (record-of k (take i (drop p s))) b b′) d f))
+        subst⁻¹ (λ (i : ℕ). Puts (g .o ++ record-of k its) (size + i) b₀ b′) (its-length k)
+        (puts-from (g .o) (record-of k its) b₀ b b′ size (g .puts) (g .same) (subst (λ (i : ℕ). FilledFrom size (record-of k (take i (drop p s))) b b′) d f))
 
     module _ (c : Answer) (ec : c ≡ nextToken s (p + m)) where
       pub next-small : pastOf c ≤ sourceLimit
@@ -285,8 +273,7 @@ module _ {s : List ℕ} {depth : ℕ} {w : Result Many} {a₀ : Answer} {b₀ : 
                 deep = omega (arith, g .deep, nd);
                 weighs = omega (arith, bind-spans .size, g .weighs);
                 o = g .o ++ record-of bindingKind its;
-                size-is = length-append (g .o) (record-of bindingKind its) ∙ omega (arith, g .size-is, its-length bindingKind);
-                wrote = its-record bindingKind b′ f;
+                puts = its-record bindingKind b′ f;
                 same = l ∙ g .same;
                 left = rw (t, dj, e′) h;
               }
@@ -331,7 +318,7 @@ module _ {s : List ℕ} {depth : ℕ} {w : Result Many} {a₀ : Answer} {b₀ : 
             → Going s depth w a₀ b₀ c 0 (n + 1) (size + i) (putMid r (length b - r) b ys)
         told-turn r eb er l =
             tree-turn (told .0) c i (putMid r (length b - r) b ys) (over-due ∙ told .1) (got-spans s (depth - j) a c (told .0) (g .lexes) told-is) (told .2)
-            (wrote-rest (g .wrote) (g .same) (records (told .0)) ys i r er (told .2) (subst (λ (x : List ℕ). Filled (records (told .0)) x ys) eb (told .3))) (l ∙ g .same)
+            (puts-both (g .o) (records (told .0)) b₀ b ys size i r (g .puts) er (told .2, subst (λ (x : List ℕ). Filled (records (told .0)) x ys) eb (told .3))) (l ∙ g .same)
 
 -- ---- at the terms that the code has
 
