@@ -1,6 +1,10 @@
 -- How little the promises leave open: two results that meet a promise are equal. Assumes nothing.
-use Prim.Native.Nat.{ℕ, _-_}
+use Prim.Native.Nat.{ℕ, _≤_}
 use mathlib.Core.Path.{_≡_, refl, sym, ap, _∙_}
+use mathlib.Core.Bool.{Bool, true, false}
+use native.Mathlib.Omega.{arith}
+use lib.Dec.{leb}
+use borrow.Author.Tests.{leb-true, leb-false}
 use Rattle.refusals.specs.declared.Refusal.{Refusal}
 use Rattle.wide.specs.declared.Wide.{Wide}
 use Rattle.wide.specs.declared.Signed.{Signed}
@@ -47,6 +51,13 @@ seen-both v same d o a b m n e f = (same a b (e .0 ∙ sym (f .0)), e .1 ∙ sym
 
 seen-held : {A B : Type 0} (H : A → Type 0) (v : A → B) → ((a b : A) → H a → H b → v a ≡ v b → a ≡ b) → (d : B) → OneHeld A H (λ r. v r ≡ d)
 seen-held H v same d a b h k e f = same a b h k (e ∙ sym f)
+
+least-same : (a b : ℕ) → One ℕ (λ r. (r ≤ b) × (a ≤ b → r ≡ a) × (b ≤ a → r ≡ b))
+least-same a b x y e f = by (leb a b) refl
+  where
+    by : (t : Bool) → leb a b ≡ t → x ≡ y
+    by true g = let h = leb-true a b g in e .1 h ∙ sym (f .1 h)
+    by false g = let h : b ≤ a = omega (arith, leb-false a b g) in e .2 h ∙ sym (f .2 h)
 
 -- ---- the views tell results apart that the machine can hold
 
@@ -175,6 +186,7 @@ pub one-answer : OneAnswer
 one-answer = record {
   lists·byte-at = λ s i. one _;
   lists·less = λ a b. one _;
+  lists·least = λ a b. least-same a b;
   lists·put = λ s out. both _ _;
   classes·class-of = λ b. one _;
   classes·is-blank = λ b. one _;

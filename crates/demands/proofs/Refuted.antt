@@ -2,7 +2,7 @@
 use mathlib.Core.Path.{_≡_, ap}
 use mathlib.Core.Bool.{true, false}
 use mathlib.Core.List.{List, [], _∷_}
-use Prim.Native.Nat.{ℕ, _+_, _*_, _-_, _^_}
+use Prim.Native.Nat.{ℕ, _+_, _*_, _-_, _^_, _≤_}
 use native.Mathlib.Omega.{arith}
 use lib.IntN.{ℤ, pos, negsuc}
 use lib.ListN.{length, getD, replicate}
@@ -59,6 +59,16 @@ less-wraps e = omega arith
 
 less-distance : Not (1 ≡ 1 - 2)
 less-distance e = omega arith
+
+-- lists::least: the greater; always 0
+abbrev Least : ℕ → ℕ → ℕ → Type 0
+Least a b r = (r ≤ b) × (a ≤ b → r ≡ a) × (b ≤ a → r ≡ b)
+
+least-greater : Not (Least 1 2 2)
+least-greater e = let z : _≡_ {A = ℕ} 2 1 = e .1 (omega arith) in omega arith
+
+least-none : Not (Least 1 2 0)
+least-none e = let z : _≡_ {A = ℕ} 0 1 = e .1 (omega arith) in omega arith
 
 -- lists::put: a room that is too short takes what it can; the bytes after the text go
 put-cut : Not (1 ∷ [] ≡ fitted (1 ∷ 2 ∷ []) (7 ∷ []))

@@ -1,5 +1,5 @@
 -- How little the promises leave open: of each public function, two results (and two lent memories) that meet its promise are equal: THEOREM one-answer.
-use Prim.Native.Nat.{ℕ, _+_, _*_, _-_, _^_, _<_}
+use Prim.Native.Nat.{ℕ, _+_, _*_, _-_, _^_, _≤_, _<_}
 use mathlib.Core.Path.{_≡_}
 use mathlib.Core.Bool.{Bool, false}
 use mathlib.Core.List.{List}
@@ -101,6 +101,7 @@ FedFits f = OutFits (f .out)
 pub record OneAnswer : Type 0 where
   pub lists·byte-at : (s : List ℕ) (i : ℕ) → One ℕ (λ r. r ≡ getD s i 0)
   pub lists·less : (a b : ℕ) → One ℕ (λ r. r ≡ a - b)
+  pub lists·least : (a b : ℕ) → One ℕ (λ r. (r ≤ b) × (a ≤ b → r ≡ a) × (b ≤ a → r ≡ b))
   pub lists·put : (s out : List ℕ) → Both ℕ (List ℕ) (λ r exit. (r ≡ length s) × (exit ≡ fitted s out))
   pub classes·class-of : (b : ℕ) → One Class (λ r. r ≡ classOf b)
   pub classes·is-blank : (b : ℕ) → One Bool (λ r. r ≡ blank (classOf b))
