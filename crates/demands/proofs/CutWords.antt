@@ -10,7 +10,7 @@ use Rattle.lexer.specs.Tokens.{Kind, lparen, rparen, at-sign, symbol, int}
 use Rattle.lexer.specs.Streams.{Stream, ends}
 use Rattle.feeder.specs.declared.State.{State}
 use Rattle.feeder.specs.Feeding.{Reply, more, finish, ready, Fed, freshState, feedOf, closeOf}
-use Rattle.words.specs.Words.{kindWord, moreKind, tokenWords, replyWords, fedWords}
+use Rattle.words.specs.Words.{kindWord, moreAnswer, tokenWords, replyWords, fedWords}
 use Rattle.words.proofs.Injective.{used-back}
 use Rattle.tulbazhik_feed.specs.States.{packOf}
 use Rattle.tulbazhik_feed.proofs.Packed.{PhaseFits, back}
@@ -22,7 +22,7 @@ use Rattle.demands.proofs.PackedStates.{feed-fits, close-fits}
 -- ---- the host reads from the words what the answer was
 
 -- a token's word 0 is no other answer's
-kind-read : (k : Kind) (x y z : List (List ℕ)) → cond (eqb (kindWord k) moreKind) x (cond (lastKind (kindWord k)) y z) ≡ z
+kind-read : (k : Kind) (x y z : List (List ℕ)) → cond (eqb (kindWord k) moreAnswer) x (cond (lastKind (kindWord k)) y z) ≡ z
 kind-read lparen x y z = refl
 kind-read rparen x y z = refl
 kind-read at-sign x y z = refl

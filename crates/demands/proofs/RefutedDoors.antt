@@ -30,7 +30,7 @@ use Rattle.reader.specs.Grammar.{readItems, readTree, fileOf}
 use Rattle.reader.specs.Reading.{reading, readInto}
 use Rattle.printer.specs.Layout.{lay, pageFrom}
 use Rattle.printer.specs.Printing.{printing, printedInto}
-use Rattle.words.specs.Words.{eight, endKind, rparenKind, symbolKind, intKind, refusedKind, moreKind, doneKind, tokenWords, refusedWords, doneWords, answerWords, replyWords, fedWords, lengthWords}
+use Rattle.words.specs.Words.{eight, endAnswer, rparenAnswer, symbolAnswer, intAnswer, refusedAnswer, moreAnswer, doneAnswer, tokenWords, refusedWords, doneWords, answerWords, replyWords, fedWords, lengthWords}
 use Rattle.tulbazhik_feed.specs.States.{packOf, unpackOf, stateWords}
 use Rattle.tulbazhik_feed.proofs.Packed.{back}
 use Rattle.demands.proofs.Refuted.{Not, wide}
@@ -42,37 +42,37 @@ word i v w e = ap (λ (l : List ℕ). getD l i 0) e
 -- ---- words
 
 -- put_token: an integer's limbs swapped; a negative one's high limb as a magnitude; the bytes consumed left out
-token-limbs : Not (eight intKind 0 1 7 0 0 ≡ tokenWords (tokenOf (code.Int (wide (pos 0) 7) 1) 0) 0)
+token-limbs : Not (eight intAnswer 0 1 7 0 0 ≡ tokenWords (tokenOf (code.Int (wide (pos 0) 7) 1) 0) 0)
 unfolding valueOf
 token-limbs e = let z : _≡_ {A = ℕ} 7 0 = word 3 _ _ e in omega arith
 
-token-magnitude : Not (eight intKind 0 2 1 (2 ^ 64 - 1) 0 ≡ tokenWords (tokenOf (code.Int (wide (negsuc 0) (2 ^ 64 - 1)) 2) 0) 0)
+token-magnitude : Not (eight intAnswer 0 2 1 (2 ^ 64 - 1) 0 ≡ tokenWords (tokenOf (code.Int (wide (negsuc 0) (2 ^ 64 - 1)) 2) 0) 0)
 unfolding valueOf
 token-magnitude e = let z : _≡_ {A = ℕ} 1 (2 ^ 64 - 1) = word 3 _ _ e in omega arith
 
-token-used : Not (eight rparenKind 4 1 0 0 0 ≡ tokenWords (tokenOf code.RParen 4) 1)
+token-used : Not (eight rparenAnswer 4 1 0 0 0 ≡ tokenWords (tokenOf code.RParen 4) 1)
 token-used e = let z : _≡_ {A = ℕ} 0 1 = word 5 _ _ e in omega arith
 
 -- put_refusal: number and place swapped; told as done
-refusal-swapped : Not (eight refusedKind 3 8 0 0 0 ≡ refusedWords 3 8 0)
+refusal-swapped : Not (eight refusedAnswer 3 8 0 0 0 ≡ refusedWords 3 8 0)
 refusal-swapped e = let z : _≡_ {A = ℕ} 3 8 = word 1 _ _ e in omega arith
 
-refusal-done : Not (eight doneKind 8 3 0 0 0 ≡ refusedWords 3 8 0)
+refusal-done : Not (eight doneAnswer 8 3 0 0 0 ≡ refusedWords 3 8 0)
 refusal-done e = let z : _≡_ {A = ℕ} 8 6 = word 0 _ _ e in omega arith
 
 -- put_length: the length as a place; as bytes consumed
-length-place : Not (eight doneKind 7 0 0 0 0 ≡ doneWords 7)
+length-place : Not (eight doneAnswer 7 0 0 0 0 ≡ doneWords 7)
 length-place e = let z : _≡_ {A = ℕ} 7 0 = word 1 _ _ e in omega arith
 
-length-used : Not (eight doneKind 0 7 0 0 7 ≡ doneWords 7)
+length-used : Not (eight doneAnswer 0 7 0 0 7 ≡ doneWords 7)
 length-used e = let z : _≡_ {A = ℕ} 7 0 = word 5 _ _ e in omega arith
 
 -- put_lexed: a refusal's number and place swapped; the end as "more"
-lexed-swapped : Not (eight refusedKind 3 8 0 0 0 ≡ answerWords (answerOf (lexed.Refused (record { number = 3; place = 8 }))))
+lexed-swapped : Not (eight refusedAnswer 3 8 0 0 0 ≡ answerWords (answerOf (lexed.Refused (record { number = 3; place = 8 }))))
 unfolding answerWords
 lexed-swapped e = let z : _≡_ {A = ℕ} 3 8 = word 1 _ _ e in omega arith
 
-lexed-end : Not (eight moreKind 0 0 0 0 0 ≡ answerWords (answerOf lexed.End))
+lexed-end : Not (eight moreAnswer 0 0 0 0 0 ≡ answerWords (answerOf lexed.End))
 unfolding answerWords
 lexed-end e = let z : _≡_ {A = ℕ} 7 0 = word 0 _ _ e in omega arith
 
@@ -80,30 +80,30 @@ lexed-end e = let z : _≡_ {A = ℕ} 7 0 = word 0 _ _ e in omega arith
 abbrev moreOut : Out
 moreOut = record { answer = answer.More; used = 2 }
 
-out-end : Not (eight endKind 0 0 0 0 2 ≡ replyWords (replyOf (moreOut .answer)) (moreOut .used))
+out-end : Not (eight endAnswer 0 0 0 0 2 ≡ replyWords (replyOf (moreOut .answer)) (moreOut .used))
 unfolding replyWords
 out-end e = let z : _≡_ {A = ℕ} 0 7 = word 0 _ _ e in omega arith
 
-out-place : Not (eight moreKind 2 0 0 0 0 ≡ replyWords (replyOf (moreOut .answer)) (moreOut .used))
+out-place : Not (eight moreAnswer 2 0 0 0 0 ≡ replyWords (replyOf (moreOut .answer)) (moreOut .used))
 unfolding replyWords
 out-place e = let z : _≡_ {A = ℕ} 2 0 = word 1 _ _ e in omega arith
 
-out-none : Not (eight moreKind 0 0 0 0 0 ≡ replyWords (replyOf (moreOut .answer)) (moreOut .used))
+out-none : Not (eight moreAnswer 0 0 0 0 0 ≡ replyWords (replyOf (moreOut .answer)) (moreOut .used))
 unfolding replyWords
 out-none e = let z : _≡_ {A = ℕ} 0 2 = word 5 _ _ e in omega arith
 
 -- ---- tulbazhik_lex
 
 -- tulbazhik_next_token: start and length swapped; a start that counts from `at`; a refusal's number and place swapped
-next-swapped : Not (eight symbolKind 1 0 0 0 0 ≡ answerWords (nextToken (97 ∷ []) 0))
+next-swapped : Not (eight symbolAnswer 1 0 0 0 0 ≡ answerWords (nextToken (97 ∷ []) 0))
 unfolding answerWords nextToken lexIn skip symbolEnd classOf
 next-swapped e = let z : _≡_ {A = ℕ} 1 0 = word 1 _ _ e in omega arith
 
-next-relative : Not (eight rparenKind 0 1 0 0 0 ≡ answerWords (nextToken (32 ∷ 41 ∷ []) 1))
+next-relative : Not (eight rparenAnswer 0 1 0 0 0 ≡ answerWords (nextToken (32 ∷ 41 ∷ []) 1))
 unfolding answerWords nextToken lexIn skip classOf
 next-relative e = let z : _≡_ {A = ℕ} 0 1 = word 1 _ _ e in omega arith
 
-next-refused : Not (eight refusedKind 3 0 0 0 0 ≡ answerWords (nextToken (12 ∷ []) 0))
+next-refused : Not (eight refusedAnswer 3 0 0 0 0 ≡ answerWords (nextToken (12 ∷ []) 0))
 unfolding answerWords nextToken lexIn skip classOf
 next-refused e = let z : _≡_ {A = ℕ} 3 0 = word 1 _ _ e in omega arith
 
@@ -181,7 +181,7 @@ feed-refused : Not (replicate 8 0 ≡ stateWords (feedOf (unpackOf (replicate 8 
 unfolding packOf feedOf feedFrom step turn classOf
 feed-refused e = let z : _≡_ {A = ℕ} 0 9 = word 0 _ _ (e ∙ ap (λ (s : State). stateWords (feedOf s (12 ∷ []))) fresh-means) in omega arith
 
-feed-none : Not (eight rparenKind 0 1 0 0 0 ≡ fedWords (feedOf (unpackOf (replicate 8 0)) (41 ∷ [])))
+feed-none : Not (eight rparenAnswer 0 1 0 0 0 ≡ fedWords (feedOf (unpackOf (replicate 8 0)) (41 ∷ [])))
 unfolding replyWords feedOf feedFrom step turn classOf
 feed-none e = let z : _≡_ {A = ℕ} 0 1 = word 5 _ _ (e ∙ ap (λ (s : State). fedWords (feedOf s (41 ∷ []))) fresh-means) in omega arith
 
@@ -190,18 +190,18 @@ close-live : Not (replicate 8 0 ≡ stateWords (closeOf (unpackOf (replicate 8 0
 unfolding packOf closeOf closing
 close-live e = let z : _≡_ {A = ℕ} 0 8 = word 0 _ _ (e ∙ ap (λ (s : State). stateWords (closeOf s)) fresh-means) in omega arith
 
-close-drops : Not (eight endKind 0 0 0 0 0 ≡ fedWords (closeOf (unpackOf (3 ∷ 1 ∷ replicate 6 0))))
+close-drops : Not (eight endAnswer 0 0 0 0 0 ≡ fedWords (closeOf (unpackOf (3 ∷ 1 ∷ replicate 6 0))))
 unfolding replyWords closeOf closing
 close-drops e = let z : _≡_ {A = ℕ} 0 4 = word 0 _ _ (e ∙ ap (λ (s : State). fedWords (closeOf s)) symbol-means) in omega arith
 
 -- ---- tulbazhik_trees
 
 -- tulbazhik_read: the length as a place; a refusal's number and place swapped; a room changed by a refusal
-read-place : Not (eight doneKind 7 0 0 0 0 ≡ lengthWords (reading (97 ∷ []) 7))
+read-place : Not (eight doneAnswer 7 0 0 0 0 ≡ lengthWords (reading (97 ∷ []) 7))
 unfolding lengthWords reading fileOf readItems readTree records record-of le nextToken lexIn skip symbolEnd classOf
 read-place e = let z : _≡_ {A = ℕ} 7 0 = word 1 _ _ e in omega arith
 
-read-swapped : Not (eight refusedKind 9 0 0 0 0 ≡ lengthWords (reading (41 ∷ []) 7))
+read-swapped : Not (eight refusedAnswer 9 0 0 0 0 ≡ lengthWords (reading (41 ∷ []) 7))
 unfolding lengthWords reading fileOf readItems readTree nextToken lexIn skip classOf
 read-swapped e = let z : _≡_ {A = ℕ} 9 0 = word 1 _ _ e in omega arith
 
@@ -214,11 +214,11 @@ abbrev oneSymbol : List ℕ
 oneSymbol = 7 ∷ 0 ∷ 0 ∷ 0 ∷ 1 ∷ 0 ∷ 97 ∷ []
 
 -- tulbazhik_print: 0 bytes; the bytes needed given as a length; a text changed where the room is too short
-print-none : Not (eight doneKind 0 0 0 0 0 ≡ lengthWords (printing oneSymbol 0 2))
+print-none : Not (eight doneAnswer 0 0 0 0 0 ≡ lengthWords (printing oneSymbol 0 2))
 unfolding lengthWords printing tableOf treesAt treeAt recordAt headAt stepAt number isSymbol runsOn classOf lay pageFrom
 print-none e = let z : _≡_ {A = ℕ} 0 2 = word 2 _ _ e in omega arith
 
-print-needed : Not (eight doneKind 0 2 0 0 0 ≡ lengthWords (printing oneSymbol 0 1))
+print-needed : Not (eight doneAnswer 0 2 0 0 0 ≡ lengthWords (printing oneSymbol 0 1))
 unfolding lengthWords printing tableOf treesAt treeAt recordAt headAt stepAt number isSymbol runsOn classOf lay pageFrom
 print-needed e = let z : _≡_ {A = ℕ} 8 6 = word 0 _ _ e in omega arith
 

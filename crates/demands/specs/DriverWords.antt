@@ -10,7 +10,7 @@ use Rattle.refusals.specs.Result.{ok, refused}
 use Rattle.lexer.specs.Streams.{Stream, ends, then, tokensOf}
 use Rattle.feeder.specs.declared.State.{State}
 use Rattle.feeder.specs.Feeding.{freshState, feedOf, closeOf}
-use Rattle.words.specs.Words.{endKind, refusedKind, moreKind, tokenWords, endWords, refusedWords, fedWords}
+use Rattle.words.specs.Words.{endAnswer, refusedAnswer, moreAnswer, tokenWords, endWords, refusedWords, fedWords}
 use Rattle.tulbazhik_feed.specs.States.{packOf, unpackOf, stateWords}
 use Rattle.demands.specs.Driver.{joined}
 use Rattle.demands.specs.Rules.{Reached}
@@ -33,11 +33,11 @@ abbrev pub told : List ℕ → List ℕ
 told o = take 5 o
 
 abbrev pub lastKind : ℕ → Bool
-lastKind k = eqb k endKind || eqb k refusedKind
+lastKind k = eqb k endAnswer || eqb k refusedAnswer
 
 -- what an answer's words make of those that the host gets: "more" goes on by `next`, the end and a refusal are the last, a token goes on by `again`
 abbrev pub afterWords : List ℕ → List (List ℕ) → List (List ℕ) → List (List ℕ)
-afterWords o next again = cond (eqb (getD o 0 0) moreKind) next (cond (lastKind (getD o 0 0)) (told o ∷ []) (told o ∷ again))
+afterWords o next again = cond (eqb (getD o 0 0) moreAnswer) next (cond (lastKind (getD o 0 0)) (told o ∷ []) (told o ∷ again))
 
 -- 0 is the number of no refusal: too few calls, or a close that answers "more"
 abbrev pub lost : List (List ℕ)

@@ -13,7 +13,7 @@ use mir.ValLaws.{toZ-ofZ}
 use Rattle.refusals.specs.Result.{Result, ok, refused}
 use Rattle.lexer.specs.Tokens.{Kind, lparen, rparen, at-sign, symbol, int, Token, token, Answer, end, is}
 use Rattle.feeder.specs.Feeding.{Reply, more, finish, ready, Fed}
-use Rattle.words.specs.Words.{kindWord, highWord, lowWord, tokenWords, answerWords, replyWords, fedWords, lengthWords, endKind, lparenKind, rparenKind, atKind, symbolKind, refusedKind, moreKind}
+use Rattle.words.specs.Words.{kindWord, highWord, lowWord, tokenWords, answerWords, replyWords, fedWords, lengthWords, endAnswer, lparenAnswer, rparenAnswer, atAnswer, symbolAnswer, refusedAnswer, moreAnswer}
 
 -- an integer of 128 bits, as every token has
 abbrev pub KindFits : Kind → Type 0
@@ -36,26 +36,26 @@ ReplyFits (refused n a) = Unit {0}
 
 abbrev kindIn : ℕ → ℕ → ℕ → Kind
 kindIn k h l =
-    cond (eqb k lparenKind) lparen
-    (cond (eqb k rparenKind) rparen
-    (cond (eqb k atKind) at-sign
-    (cond (eqb k symbolKind) symbol
+    cond (eqb k lparenAnswer) lparen
+    (cond (eqb k rparenAnswer) rparen
+    (cond (eqb k atAnswer) at-sign
+    (cond (eqb k symbolAnswer) symbol
     (int (toZ w128 (h * 2 ^ 64 + l))))))
 
 abbrev tokenIn : List ℕ → Token
 tokenIn w = token (kindIn (getD w 0 0) (getD w 3 0) (getD w 4 0)) (getD w 1 0) (getD w 2 0)
 
 abbrev answerIn : List ℕ → Answer
-answerIn w = cond (eqb (getD w 0 0) endKind) (ok end) (cond (eqb (getD w 0 0) refusedKind) (refused (getD w 2 0) (getD w 1 0)) (ok (is (tokenIn w))))
+answerIn w = cond (eqb (getD w 0 0) endAnswer) (ok end) (cond (eqb (getD w 0 0) refusedAnswer) (refused (getD w 2 0) (getD w 1 0)) (ok (is (tokenIn w))))
 
 abbrev replyIn : List ℕ → Result Reply
 replyIn w =
-    cond (eqb (getD w 0 0) endKind) (ok finish)
-    (cond (eqb (getD w 0 0) refusedKind) (refused (getD w 2 0) (getD w 1 0))
-    (cond (eqb (getD w 0 0) moreKind) (ok more) (ok (ready (tokenIn w)))))
+    cond (eqb (getD w 0 0) endAnswer) (ok finish)
+    (cond (eqb (getD w 0 0) refusedAnswer) (refused (getD w 2 0) (getD w 1 0))
+    (cond (eqb (getD w 0 0) moreAnswer) (ok more) (ok (ready (tokenIn w)))))
 
 abbrev lengthIn : List ℕ → Result ℕ
-lengthIn w = cond (eqb (getD w 0 0) refusedKind) (refused (getD w 2 0) (getD w 1 0)) (ok (getD w 2 0))
+lengthIn w = cond (eqb (getD w 0 0) refusedAnswer) (refused (getD w 2 0) (getD w 1 0)) (ok (getD w 2 0))
 
 joined : (z : ℤ) → SFits w128 z → toZ w128 (ofZ w128 z / 2 ^ 64 * 2 ^ 64 + ofZ w128 z % 2 ^ 64) ≡ z
 joined z f = let e : ofZ w128 z / 2 ^ 64 * 2 ^ 64 + ofZ w128 z % 2 ^ 64 ≡ ofZ w128 z = omega arith in ap (toZ w128) e ∙ toZ-ofZ w128 z f
@@ -71,14 +71,14 @@ token-back : (t : Token) (u : ℕ) → KindFits (t .kind) → tokenIn (tokenWord
 token-back t u f = ap (λ (k : Kind). token k (t .start) (t .size)) (kind-back (t .kind) f)
 
 -- a token's word 0 is no other answer's
-told-answer : (k : Kind) (x y z : Answer) → cond (eqb (kindWord k) endKind) x (cond (eqb (kindWord k) refusedKind) y z) ≡ z
+told-answer : (k : Kind) (x y z : Answer) → cond (eqb (kindWord k) endAnswer) x (cond (eqb (kindWord k) refusedAnswer) y z) ≡ z
 told-answer lparen x y z = refl
 told-answer rparen x y z = refl
 told-answer at-sign x y z = refl
 told-answer symbol x y z = refl
 told-answer (int i) x y z = refl
 
-told-reply : (k : Kind) (w x y z : Result Reply) → cond (eqb (kindWord k) endKind) w (cond (eqb (kindWord k) refusedKind) x (cond (eqb (kindWord k) moreKind) y z)) ≡ z
+told-reply : (k : Kind) (w x y z : Result Reply) → cond (eqb (kindWord k) endAnswer) w (cond (eqb (kindWord k) refusedAnswer) x (cond (eqb (kindWord k) moreAnswer) y z)) ≡ z
 told-reply lparen w x y z = refl
 told-reply rparen w x y z = refl
 told-reply at-sign w x y z = refl

@@ -9,43 +9,43 @@ use Rattle.lexer.specs.Tokens.{Kind, lparen, rparen, at-sign, symbol, int, Toke
 use Rattle.feeder.specs.Feeding.{Reply, more, finish, ready, Fed}
 
 -- word 0, the kind of an answer
-abbrev pub endKind : ℕ
-endKind = 0
+abbrev pub endAnswer : ℕ
+endAnswer = 0
 
-abbrev pub lparenKind : ℕ
-lparenKind = 1
+abbrev pub lparenAnswer : ℕ
+lparenAnswer = 1
 
-abbrev pub rparenKind : ℕ
-rparenKind = 2
+abbrev pub rparenAnswer : ℕ
+rparenAnswer = 2
 
-abbrev pub atKind : ℕ
-atKind = 3
+abbrev pub atAnswer : ℕ
+atAnswer = 3
 
-abbrev pub symbolKind : ℕ
-symbolKind = 4
+abbrev pub symbolAnswer : ℕ
+symbolAnswer = 4
 
-abbrev pub intKind : ℕ
-intKind = 5
+abbrev pub intAnswer : ℕ
+intAnswer = 5
 
-abbrev pub refusedKind : ℕ
-refusedKind = 6
+abbrev pub refusedAnswer : ℕ
+refusedAnswer = 6
 
-abbrev pub moreKind : ℕ
-moreKind = 7
+abbrev pub moreAnswer : ℕ
+moreAnswer = 7
 
-abbrev pub doneKind : ℕ
-doneKind = 8
+abbrev pub doneAnswer : ℕ
+doneAnswer = 8
 
 -- kind; a start or a place; a length or a refusal's number; an integer's high and low 64 bits (two's complement); bytes consumed; the last two are to spare
 abbrev pub eight : ℕ → ℕ → ℕ → ℕ → ℕ → ℕ → List ℕ
 eight k p n h l u = k ∷ p ∷ n ∷ h ∷ l ∷ u ∷ 0 ∷ 0 ∷ []
 
 abbrev pub kindWord : Kind → ℕ
-kindWord lparen = lparenKind
-kindWord rparen = rparenKind
-kindWord at-sign = atKind
-kindWord symbol = symbolKind
-kindWord (int z) = intKind
+kindWord lparen = lparenAnswer
+kindWord rparen = rparenAnswer
+kindWord at-sign = atAnswer
+kindWord symbol = symbolAnswer
+kindWord (int z) = intAnswer
 
 abbrev pub highWord : Kind → ℕ
 highWord lparen = 0
@@ -66,18 +66,18 @@ abbrev pub tokenWords : Token → ℕ → List ℕ
 tokenWords t u = eight (kindWord (t .kind)) (t .start) (t .size) (highWord (t .kind)) (lowWord (t .kind)) u
 
 abbrev pub endWords : ℕ → List ℕ
-endWords u = eight endKind 0 0 0 0 u
+endWords u = eight endAnswer 0 0 0 0 u
 
 abbrev pub moreWords : ℕ → List ℕ
-moreWords u = eight moreKind 0 0 0 0 u
+moreWords u = eight moreAnswer 0 0 0 0 u
 
 -- a refusal's number and place
 abbrev pub refusedWords : ℕ → ℕ → ℕ → List ℕ
-refusedWords n a u = eight refusedKind a n 0 0 u
+refusedWords n a u = eight refusedAnswer a n 0 0 u
 
 -- so many bytes were written into the room lent
 abbrev pub doneWords : ℕ → List ℕ
-doneWords n = eight doneKind 0 n 0 0 0
+doneWords n = eight doneAnswer 0 n 0 0 0
 
 -- of the uncut lexer's answer
 unfoldable pub answerWords : Answer → List ℕ
