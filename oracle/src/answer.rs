@@ -15,8 +15,8 @@ pub trait Side {
     fn feeder(&self, source: &[u8]) -> Box<dyn Feeder>;
     /// The whole table, or the first of 3 to 13.
     fn read(&self, source: &[u8]) -> Result<Vec<u8>, Refusal>;
-    /// The table's trees, or the first of 15, 13, 16, 17.
-    fn check(&self, table: &[u8]) -> Result<Vec<Tree>, Refusal>;
+    /// The table's trees, or the first of 15, 13, 16 and, where it is to be printed, 17.
+    fn check(&self, table: &[u8], printing: bool) -> Result<Vec<Tree>, Refusal>;
     /// All trees' text at this width.
     fn lay_out(&self, trees: &[Tree], width: usize) -> Vec<u8>;
 }
@@ -36,6 +36,10 @@ pub fn answer(side: &dyn Side, frame: &Frame, out: &mut Vec<u8>) {
             let text = table.and_then(|table| print(side, &table, a, OUTPUT_ROOM));
             shown("text", text, false, out)
         }
+        b'K' => match side.check(source, a == 1) {
+            Ok(_) => out.extend(b"good\n"),
+            Err(refusal) => refusal.line(out),
+        },
         op => panic!("no op {op}"),
     }
     out.extend(b".\n");
@@ -68,7 +72,7 @@ pub fn read(side: &dyn Side, source: &[u8], room: usize) -> Result<Vec<u8>, Refu
 
 /// Printing with a room: 18 comes last and names the whole size.
 pub fn print(side: &dyn Side, table: &[u8], width: usize, room: usize) -> Result<Vec<u8>, Refusal> {
-    let trees = side.check(table)?;
+    let trees = side.check(table, true)?;
     let text = side.lay_out(&trees, width);
     if text.len() > room { Err(refusal(18, text.len())) } else { Ok(text) }
 }

@@ -4,7 +4,8 @@
 use std::str::from_utf8;
 
 use crate::answer::Side;
-use crate::document::{calls, layout, lex, read, table};
+use crate::document::lex::{self, literal_len};
+use crate::document::{calls, layout, read, table};
 use crate::drive::Feeder;
 use crate::error::Error;
 use crate::lexer::{Lexer, Token as CrateToken};
@@ -30,8 +31,8 @@ impl Side for CrateSide {
         read::table(source, &self.lex(source, 0))
     }
 
-    fn check(&self, table: &[u8]) -> Result<Vec<Tree>, Refusal> {
-        table::trees(table, &is_symbol)
+    fn check(&self, table: &[u8], printing: bool) -> Result<Vec<Tree>, Refusal> {
+        table::trees(table, printing, &is_symbol)
     }
 
     fn lay_out(&self, trees: &[Tree], width: usize) -> Vec<u8> {
@@ -95,19 +96,6 @@ fn refused(error: Error, shift: usize) -> Refusal {
         other => panic!("the lexer gave a message without a number: {other}"),
     };
     refusal(number, span.from.offset + shift)
-}
-
-/// The crate gives no length for a literal. Document 01: an optional sign, an optional prefix, then
-/// all that could be a digit.
-pub fn literal_len(bytes: &[u8]) -> usize {
-    let sign = bytes.starts_with(b"-") as usize;
-    let prefix = match &bytes[sign..] {
-        [b'0', b'x' | b'X' | b'o' | b'O' | b'b' | b'B', ..] => 2,
-        _ => 0,
-    };
-    let rest = &bytes[sign + prefix..];
-    let digits = rest.iter().take_while(|byte| byte.is_ascii_hexdigit() || **byte == b'_');
-    sign + prefix + digits.count()
 }
 
 /// A symbol is what the crate reads as one, whole.

@@ -4,13 +4,18 @@
 use crate::frame::Frame;
 
 /// Op, `a`, `b`, bytes, and the lines but for the closing dot.
-type Case = (char, u32, u32, String, &'static str);
+type Case = (char, u32, u32, Vec<u8>, String);
+
+fn case(op: char, a: u32, b: u32, bytes: impl Into<Vec<u8>>, lines: impl Into<String>) -> Case {
+    (op, a, b, bytes.into(), lines.into())
+}
 
 fn cases() -> Vec<Case> {
     let mut cases = lexing();
     cases.extend(calls());
     cases.extend(reading());
     cases.extend(printing());
+    cases.extend(checking());
     cases
 }
 
@@ -43,17 +48,16 @@ fn lexing() -> Vec<Case> {
     ];
     let mut all: Vec<Case> = Vec::new();
     for &(a, source, lines) in cases {
-        all.push(('L', a, 0, source.to_string(), lines));
+        all.push(case('L', a, 0, source, lines));
         if a == 0 {
-            all.push(('F', 1, 1, source.to_string(), lines));
-            all.push(('f', 2, 3, source.to_string(), lines));
+            all.push(case('F', 1, 1, source, lines));
+            all.push(case('f', 2, 3, source, lines));
         }
     }
     all
 }
 
 fn calls() -> Vec<Case> {
-    let case = |op, a, b, source: &str, lines| (op, a, b, source.to_string(), lines);
     vec![
         case('C', 0, 0, "", "feed 0 more\nclose end\nfeed 0 refusal 19 at 0\nclose end"),
         case(
@@ -118,12 +122,16 @@ fn reading() -> Vec<Case> {
         (9, nest("(", 64, "a\x0c@", ")"), "refusal 3 at 65\nkept"),
         (9, nest("(", 64, "a @ (", ""), "refusal 13 at 64\nkept"),
     ];
-    cases.into_iter().map(|(a, source, lines)| ('R', a, 0, source, lines)).collect()
+    let mut all: Vec<Case> = cases.into_iter().map(|(a, source, lines)| case('R', a, 0, source, lines)).collect();
+    // 64 lists, each but the innermost with one item
+    let lines = format!("table 640\n{}0a000000040000000000\nkept", "0a000000040001000000".repeat(63));
+    all.push(case('R', 640, 0, nest("(", 64, "", ")"), lines));
+    all
 }
 
 fn printing() -> Vec<Case> {
-    let w = |a, source: &str, lines| ('W', a, 0, source.to_string(), lines);
-    let p = |a, b, table: &str, lines| ('P', a, b, table.to_string(), lines);
+    let w = |a, source: &str, lines: &str| case('W', a, 0, source, lines);
+    let p = |a, b, table: &str, lines: &str| case('P', a, b, table, lines);
     vec![
         w(14, "(rule (a b) c)", "text 15\n2872756c652028612062292063290a"),
         w(13, "(rule (a b) c)", "text 24\n2872756c650a2020202028612062290a20202020630a290a"),
@@ -148,9 +156,27 @@ fn printing() -> Vec<Case> {
     ]
 }
 
+/// The table's check, for a host that wants to know a table without printing it (a = 0), or before it prints (a = 1).
+fn checking() -> Vec<Case> {
+    let k = |a, table: &[u8], lines: &str| case('K', a, 0, table, lines);
+    let lowest = [&b"\x16\0\0\0\x02\0"[..], &[0; 15], &[128]].concat();
+    vec![
+        k(0, b"", "good"),
+        k(0, b"\x07\0\0\0\x03\0x\x0a\0\0\0\x04\0\x01\0\0\0\x07\0\0\0\x01\0a", "good"),
+        k(1, &lowest, "refusal 17 at 0"),
+        k(0, &lowest, "good"),
+        k(0, &b"\x07\0\0\0\x03\0n".repeat(65), "refusal 13 at 448"),
+        k(0, &b"\x0a\0\0\0\x04\0\x01\0\0\0".repeat(65), "refusal 13 at 640"),
+        k(1, b"\x06\0\0\0\x01\0", "refusal 16 at 0"),
+        k(0, b"\x05\0\0\0\x01\0", "refusal 15 at 0"),
+        k(1, b"\x07\0\0\0\x03\0x", "refusal 15 at 7"),
+        k(0, b"\x07\0\0\0\x05\0x", "refusal 15 at 0"),
+    ]
+}
+
 fn frame(case: &Case) -> Frame {
     let (op, a, b, bytes, _) = case;
-    Frame { op: *op as u8, a: *a, b: *b, bytes: bytes.clone().into_bytes() }
+    Frame { op: *op as u8, a: *a, b: *b, bytes: bytes.clone() }
 }
 
 pub fn frames() -> Vec<Frame> {

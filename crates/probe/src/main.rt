@@ -80,6 +80,7 @@ fn answer(
         b'R' => tables::read(page, n, src, table, f.a),
         b'P' => tables::print(page, n, src, f.a, text, f.b),
         b'W' => tables::rewrite(page, n, src, f.a, table, text),
+        b'K' => tables::check(page, n, src, f.a == 1),
         _ => lines::bytes(page, n, b"no such op\n"),
     }
 }

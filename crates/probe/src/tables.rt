@@ -1,7 +1,8 @@
-// The ops R, P and W: a source is read into a room, a table printed into one, and both in turn.
+// The ops R, P, W and K: a source is read into a room, a table printed into one, both in turn, and a table checked.
 use crate::lines;
 use printer::Printed;
 use reader::Readout;
+use table::Checked;
 
 // What a room holds before a call, so that a byte that the call must not touch shows.
 const MARK: u8 = 0xA5;
@@ -151,5 +152,12 @@ pub fn rewrite(
             print_whole(page, n, &table[..k], width, room)
         }
         Readout::Refused(r) => lines::refusal(page, n, r),
+    }
+}
+
+pub fn check(page: &mut [u8; 65536], n: usize, t: &[u8], printing: bool) -> usize {
+    match table::check(t, printing) {
+        Checked::Good => lines::bytes(page, n, b"good\n"),
+        Checked::Refused(r) => lines::refusal(page, n, r),
     }
 }

@@ -93,8 +93,8 @@ impl Cases {
         if self.limit {
             number -= (number + LIMIT_EVERY / 2 - 1) / LIMIT_EVERY;
         }
-        if op == b'P' {
-            return self.table_frame(number, &mut rng);
+        if takes_table(op) {
+            return self.table_frame(op, number, &mut rng);
         }
         let source = self.source(number, &mut rng);
         let len = source.len();
@@ -108,7 +108,7 @@ impl Cases {
     }
 
     fn families_of(&self, op: u8) -> &[&'static str] {
-        if op == b'P' { &self.tables } else { &self.sources }
+        if takes_table(op) { &self.tables } else { &self.sources }
     }
 
     /// The family of this case, and the how-manieth of its family it is, so that an enumeration leaves
@@ -143,11 +143,11 @@ impl Cases {
         source
     }
 
-    /// A source at the limit; for the printer a table with many records.
+    /// A source at the limit; for an op that takes a table one with many records.
     fn limit_frame(&self, op: u8, turn: u64, rng: &mut Rng) -> Frame {
-        if op == b'P' {
+        if takes_table(op) {
             let (table, width) = tables::large(rng);
-            return print_frame(table, width, rng);
+            return of_table(op, table, width, rng);
         }
         let (source, end) = match turn % 32 {
             17 if !self.real.is_empty() => (self.real.clone(), self.real.len()),
@@ -176,23 +176,31 @@ impl Cases {
         Frame { op, a: a as u32, b: b as u32, bytes: source }
     }
 
-    fn table_frame(&self, number: u64, rng: &mut Rng) -> Frame {
+    fn table_frame(&self, op: u8, number: u64, rng: &mut Rng) -> Frame {
         let (family, turn) = self.turn(&self.tables, number, rng);
         let (table, width) = match family {
             "small" => self.small.nth(turn, rng),
             "broken" => (tables::broken(rng), width(30, rng)),
             _ => tables::random(self.sample, rng),
         };
-        print_frame(table, width, rng)
+        of_table(op, table, width, rng)
     }
 }
 
-fn print_frame(table: Vec<u8>, width: usize, rng: &mut Rng) -> Frame {
-    let need = match CrateSide.check(&table) {
+/// The ops that are given a table and not a source.
+fn takes_table(op: u8) -> bool {
+    matches!(op, b'P' | b'K')
+}
+
+fn of_table(op: u8, table: Vec<u8>, width: usize, rng: &mut Rng) -> Frame {
+    if op == b'K' {
+        return Frame { op, a: rng.below(2) as u32, b: 0, bytes: table };
+    }
+    let need = match CrateSide.check(&table, true) {
         Ok(trees) => layout::page(&trees, width).out.len(),
         Err(_) => table.len(),
     };
-    Frame { op: b'P', a: width as u32, b: room(need, rng) as u32, bytes: table }
+    Frame { op, a: width as u32, b: room(need, rng) as u32, bytes: table }
 }
 
 /// Mostly the source's start, else any place in it and a little beyond.

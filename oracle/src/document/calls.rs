@@ -1,7 +1,7 @@
 //! Document 01, "Feeding in pieces", told from the uncut tokens: what each call has to answer is
 //! decided by the byte that a token or a refusal waits for, so no byte is looked at here.
 
-use crate::crate_side::literal_len;
+use crate::document::lex::literal_len;
 use crate::drive::Feeder;
 use crate::token::{Answer, Kind, LIMIT, Lexed, Refusal, refusal};
 

@@ -144,3 +144,15 @@ fn signed(minus: bool, n: u128) -> Result<i128, u32> {
     }
     Ok(if minus { n.wrapping_neg() as i128 } else { n as i128 })
 }
+
+/// A literal's bytes, good or not: an optional sign, an optional prefix, then all that could be a digit.
+pub fn literal_len(bytes: &[u8]) -> usize {
+    let sign = bytes.starts_with(b"-") as usize;
+    let prefix = match &bytes[sign..] {
+        [b'0', b'x' | b'X' | b'o' | b'O' | b'b' | b'B', ..] => 2,
+        _ => 0,
+    };
+    let rest = &bytes[sign + prefix..];
+    let digits = rest.iter().take_while(|byte| byte.is_ascii_hexdigit() || **byte == b'_');
+    sign + prefix + digits.count()
+}

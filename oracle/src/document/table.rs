@@ -10,8 +10,12 @@ struct Open {
     due: usize,
 }
 
-/// Its trees, or the first refusal: in each record 15, 13, 16, 17, and missing trees at the end.
-pub fn trees(table: &[u8], is_symbol: &dyn Fn(&[u8]) -> bool) -> Result<Vec<Tree>, Refusal> {
+/// Its trees, or the first refusal: in each record 15, 13, 16 and at printing 17, and missing trees at the end.
+pub fn trees(
+    table: &[u8],
+    printing: bool,
+    is_symbol: &dyn Fn(&[u8]) -> bool,
+) -> Result<Vec<Tree>, Refusal> {
     if table.len() > TABLE_LIMIT {
         return Err(refusal(1, TABLE_LIMIT));
     }
@@ -27,7 +31,7 @@ pub fn trees(table: &[u8], is_symbol: &dyn Fn(&[u8]) -> bool) -> Result<Vec<Tree
         let number = |bytes: &[u8]| bytes.iter().rev().fold(0u128, |n, byte| n << 8 | *byte as u128);
         match kind {
             1 => complete(&mut whole, &mut open, Tree::Symbol(payload.to_vec())),
-            2 if number(payload) == 1 << 127 => return Err(refusal(17, at)),
+            2 if printing && number(payload) == 1 << 127 => return Err(refusal(17, at)),
             2 => complete(&mut whole, &mut open, Tree::Int(number(payload) as i128)),
             3 => open.push(Open { name: Some(payload.to_vec()), items: Vec::new(), due: 1 }),
             _ if number(payload) == 0 => complete(&mut whole, &mut open, Tree::List(Vec::new())),
