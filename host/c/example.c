@@ -1,4 +1,5 @@
-/* Prints an ISLE source at width 100, with rooms that grow: cc -I ../include example.c ../../target/staticlib/libtulbazhik_trees.a */
+/* Prints an ISLE source at width 100, with rooms that grow: cc -I ../include example.c ../../target/staticlib/libtulbazhik_trees.a
+   Its status is 1 after a refusal, and 2 where its input or its output fails. */
 #include <stdio.h>
 #include <stdlib.h>
 #include "tulbazhik.h"
@@ -29,5 +30,11 @@ int format(const uint8_t *source, size_t length, FILE *out) {
 
 int main(void) {
     static uint8_t source[TULBAZHIK_SOURCE_LIMIT + 1]; /* a longer one is refused, not cut */
-    return format(source, fread(source, 1, sizeof source, stdin), stdout);
+    size_t length = fread(source, 1, sizeof source, stdin);
+    int refused = !ferror(stdin) && format(source, length, stdout);
+    if (ferror(stdin) || fflush(stdout) != 0 || ferror(stdout)) { /* a part of a source or of a text passes for none */
+        perror("example");
+        return 2;
+    }
+    return refused;
 }

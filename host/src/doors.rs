@@ -1,7 +1,7 @@
 //! The answers of the proved library to a frame, in the probe's lines, by each way there is to ask it.
 
 use std::ffi::{c_char, c_int};
-use std::io::Write;
+use std::io::{self, ErrorKind, Read, Write};
 
 use tulbazhik::FeedError;
 
@@ -210,11 +210,15 @@ fn driven(feeder: Box<dyn Feeder>, source: &[u8], first: usize, later: usize) ->
     out
 }
 
-/// A reader that hands out the same cuts; the spelling of each token is that of the source.
+/// A reader that hands out the same cuts and would block before each; the spelling of each token is that of the source.
 fn from_reader(source: &[u8], first: usize, later: usize) -> Vec<u8> {
-    struct Cut<'s>(&'s [u8], usize, usize);
-    impl std::io::Read for Cut<'_> {
-        fn read(&mut self, into: &mut [u8]) -> std::io::Result<usize> {
+    struct Cut<'s>(&'s [u8], usize, usize, bool);
+    impl Read for Cut<'_> {
+        fn read(&mut self, into: &mut [u8]) -> io::Result<usize> {
+            self.3 = !self.3;
+            if self.3 {
+                return Err(ErrorKind::WouldBlock.into());
+            }
             let n = self.1.max(1).min(self.0.len()).min(into.len());
             into[..n].copy_from_slice(&self.0[..n]);
             (self.0, self.1) = (&self.0[n..], self.2);
@@ -222,7 +226,7 @@ fn from_reader(source: &[u8], first: usize, later: usize) -> Vec<u8> {
         }
     }
     let mut out = Vec::new();
-    let mut tokens = tulbazhik::Feeder::new().tokens_from_in(Cut(source, first, later), 4096);
+    let mut tokens = tulbazhik::Feeder::new().tokens_from_in(Cut(source, first, later, false), 4096);
     loop {
         match tokens.next() {
             Some(Ok(token)) => {
@@ -233,7 +237,7 @@ fn from_reader(source: &[u8], first: usize, later: usize) -> Vec<u8> {
                 of_error(error).line(&mut out);
                 return out;
             }
-            Some(Err(FeedError::Read(error))) => panic!("{error}"),
+            Some(Err(FeedError::Read(error))) => assert_eq!(error.kind(), ErrorKind::WouldBlock),
             None => {
                 Answer::End.line(&mut out);
                 return out;

@@ -73,7 +73,8 @@ fn main() -> ExitCode {
             failed += 1;
         }
     }
-    for &op in frame::OPS {
+    // the doors have no check of a table by itself, op K
+    for &op in frame::OPS.iter().filter(|op| **op != b'K') {
         for number in 0..each {
             let case = cases.frame(op, number);
             // the C example prints at width 100 alone

@@ -100,6 +100,10 @@ impl Feeder {
 }
 
 /// The iterator that [`Feeder::tokens_from`] gives. It keeps a chunk and the token that is held over it.
+///
+/// An error of the reader is an item and ends nothing: the state and the bytes are kept, and the next call asks the reader again,
+/// so that a reader that fails for good gives its error for ever. Only `Interrupted` is no item: the reader is asked again at once.
+/// A refusal is the last item.
 #[derive(Debug)]
 pub struct TokensFrom<R> {
     reader: R,
@@ -118,6 +122,31 @@ impl<R: Read> TokensFrom<R> {
     pub fn spelling(&self, token: &Token) -> &[u8] {
         let start = token.start.wrapping_sub(self.from);
         self.window.get(start..start.saturating_add(token.len)).unwrap_or_default()
+    }
+
+    /// The feeder, the reader and the bytes that stand between them, so that nothing is lost where a caller goes on by other means.
+    ///
+    /// ```
+    /// use std::io::{Cursor, Read};
+    /// use tulbazhik::{Feeder, Parts};
+    ///
+    /// let mut tokens = Feeder::new().tokens_from_in(&b"(decl lower)"[..], 8);
+    /// let decl = tokens.nth(1).expect("there is a second token")?;
+    /// assert_eq!(tokens.spelling(&decl), b"decl");
+    /// let Parts { feeder, reader, held, rest } = tokens.into_parts();
+    /// assert_eq!((&held[..], &rest[..], reader), (&b""[..], &b" lo"[..], &b"wer)"[..]));
+    /// let mut tokens = feeder.tokens_from(Cursor::new(rest).chain(reader));
+    /// let lower = tokens.next().expect("there is a third token")?;
+    /// assert_eq!(tokens.spelling(&lower), b"lower");
+    /// # Ok::<(), tulbazhik::FeedError>(())
+    /// ```
+    pub fn into_parts(mut self) -> Parts<R> {
+        let rest = self.window.split_off(self.fed);
+        let held = match self.feeder.held() {
+            Some(start) => self.window.split_off(start.saturating_sub(self.from).min(self.fed)),
+            None => Vec::new(),
+        };
+        Parts { feeder: self.feeder, reader: self.reader, held, rest }
     }
 
     /// A chunk more, once what was consumed and is not held is let go.
@@ -155,10 +184,8 @@ impl<R: Read> Iterator for TokensFrom<R> {
             } else {
                 match self.fill() {
                     Ok(()) => continue,
-                    Err(error) => {
-                        self.done = true;
-                        return Some(Err(FeedError::Read(error)));
-                    }
+                    // not the end: a reader that would block has more to give, and a token may be held
+                    Err(error) => return Some(Err(FeedError::Read(error))),
                 }
             };
             match answer {
@@ -175,7 +202,19 @@ impl<R: Read> Iterator for TokensFrom<R> {
     }
 }
 
-/// Why [`TokensFrom`] stopped: the reader failed, or the source was refused.
+/// What [`TokensFrom::into_parts`] gives back. The feeder's [`place`](Feeder::place) and the length of `rest` make up all that the reader gave.
+#[derive(Debug)]
+pub struct Parts<R> {
+    pub feeder: Feeder,
+    pub reader: R,
+    /// The first bytes of a token that the next bytes may go on: the feeder has consumed them, and they are here for the token's
+    /// spelling. Not to be fed again.
+    pub held: Vec<u8>,
+    /// Bytes that the reader gave and the feeder has not consumed. To be fed before what the reader gives next.
+    pub rest: Vec<u8>,
+}
+
+/// Why [`TokensFrom`] has no token: the reader failed and may be asked again, or the source was refused.
 #[derive(Debug)]
 pub enum FeedError {
     Read(io::Error),

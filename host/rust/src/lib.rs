@@ -23,7 +23,7 @@ mod tables;
 mod token;
 
 pub use error::{Error, Within};
-pub use feed::{FeedError, Feeder, TokensFrom};
+pub use feed::{FeedError, Feeder, Parts, TokensFrom};
 pub use lex::{Tokens, next_token, tokens};
 pub use tables::{print, print_into, read, read_into};
 pub use token::{Answer, Kind, Token};
