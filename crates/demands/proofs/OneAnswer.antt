@@ -33,31 +33,7 @@ use Rattle.printer.specs.Printing.{printOf}
 use Rattle.reader.specs.declared.Readout.{Readout}
 use Rattle.reader.specs.declared.Readout.the-variants as read
 use Rattle.reader.specs.Reading.{readOf}
-use Rattle.demands.specs.OneAnswer.{One, OneHeld, Both, BothHeld, WideFits, SignedFits, TokenFits, LexedFits, AnswerFits, OutFits, FedFits, OneAnswer}
-
--- ---- a promise by a definition decides, and so does one through a view that tells results apart
-
-pub one : {A : Type 0} (d : A) → One A (λ r. r ≡ d)
-one d a b e f = e ∙ sym f
-
-pub both : {A B : Type 0} (d : A) (o : B) → Both A B (λ r m. (r ≡ d) × (m ≡ o))
-both d o a b m n e f = (e .0 ∙ sym (f .0), e .1 ∙ sym (f .1))
-
-seen : {A B : Type 0} (v : A → B) → ((a b : A) → v a ≡ v b → a ≡ b) → (d : B) → One A (λ r. v r ≡ d)
-seen v same d a b e f = same a b (e ∙ sym f)
-
-seen-both : {A B C : Type 0} (v : A → B) → ((a b : A) → v a ≡ v b → a ≡ b) → (d : B) (o : C) → Both A C (λ r m. (v r ≡ d) × (m ≡ o))
-seen-both v same d o a b m n e f = (same a b (e .0 ∙ sym (f .0)), e .1 ∙ sym (f .1))
-
-seen-held : {A B : Type 0} (H : A → Type 0) (v : A → B) → ((a b : A) → H a → H b → v a ≡ v b → a ≡ b) → (d : B) → OneHeld A H (λ r. v r ≡ d)
-seen-held H v same d a b h k e f = same a b h k (e ∙ sym f)
-
-least-same : (a b : ℕ) → One ℕ (λ r. (r ≤ b) × (a ≤ b → r ≡ a) × (b ≤ a → r ≡ b))
-least-same a b x y e f = by (leb a b) refl
-  where
-    by : (t : Bool) → leb a b ≡ t → x ≡ y
-    by true g = let h = leb-true a b g in e .1 h ∙ sym (f .1 h)
-    by false g = let h : b ≤ a = omega (arith, leb-false a b g) in e .2 h ∙ sym (f .2 h)
+use Rattle.demands.specs.OneAnswer.{WideFits, SignedFits, TokenFits, LexedFits, AnswerFits, OutFits, FedFits, OneAnswer}
 
 -- ---- the views tell results apart that the machine can hold
 
@@ -170,66 +146,74 @@ print-same (printed.Text n) (printed.Refused s) e = cc
 print-same (printed.Refused r) (printed.Text m) e = cc
 print-same (printed.Refused r) (printed.Refused s) e = ap printed.Refused (refusal-same r s (cc) (cc))
 
-digits-same : (r : Reading) (n : ℕ) → One Digits (λ x. (x .reading ≡ r) × (x .end ≡ n))
-digits-same r n x y e f = at (x .reading) (y .reading) (x .end) (y .end) (e .0 ∙ sym (f .0)) (e .1 ∙ sym (f .1))
+-- the lesser of two, by which of them it is
+least-same : (a b x y : ℕ) → (x ≤ b) × (a ≤ b → x ≡ a) × (b ≤ a → x ≡ b) → (y ≤ b) × (a ≤ b → y ≡ a) × (b ≤ a → y ≡ b) → x ≡ y
+least-same a b x y e f = by (leb a b) refl
+  where
+    by : (t : Bool) → leb a b ≡ t → x ≡ y
+    by true k = let l = leb-true a b k in e .1 l ∙ sym (f .1 l)
+    by false k = let l : b ≤ a = omega (arith, leb-false a b k) in e .2 l ∙ sym (f .2 l)
+
+digits-same : (x y : Digits) → x .reading ≡ y .reading → x .end ≡ y .end → x ≡ y
+digits-same x y e f = at (x .reading) (y .reading) (x .end) (y .end) e f
   where
     at : (a b : Reading) (m k : ℕ) → a ≡ b → m ≡ k → _≡_ {A = Digits} (record { reading = a; end = m }) (record { reading = b; end = k })
     at a b m k e f = rw (e, f) refl
 
 -- a lent state beside an answer is a call's result
-fed-lent : (d : Called) → BothHeld Out State OutFits (λ r s. fedOf (record { out = r; state = s }) ≡ d)
-fed-lent d a b m n h k e f =
-    let z = fed-same (record { out = a; state = m }) (record { out = b; state = n }) h k (e ∙ sym f) in
-    (ap (λ (x : Fed). x .out) z, ap (λ (x : Fed). x .state) z)
+lent-same : (x y : Out) (m n : State) → OutFits x → OutFits y → fedOf (record { out = x; state = m }) ≡ fedOf (record { out = y; state = n }) → (x ≡ y) × (m ≡ n)
+lent-same x y m n h k e =
+    let z = fed-same (record { out = x; state = m }) (record { out = y; state = n }) h k e in
+    (ap (λ (w : Fed). w .out) z, ap (λ (w : Fed). w .state) z)
 
 pub one-answer : OneAnswer
 one-answer = record {
-  lists·byte-at = λ s i. one _;
-  lists·less = λ a b. one _;
-  lists·least = λ a b. least-same a b;
-  lists·put = λ s out. both _ _;
-  classes·class-of = λ b. one _;
-  classes·is-blank = λ b. one _;
-  classes·is-line-end = λ b. one _;
-  classes·is-sym-first-char = λ b. one _;
-  classes·is-sym-other-char = λ b. one _;
-  classes·digit-of = λ b. one _;
-  classes·is-literal-byte = λ b. one _;
-  wide·as-unsigned = λ z. one _;
-  wide·negative = λ w. one _;
-  wide·with-sign = λ n minus. seen-held SignedFits signedOf signed-same _;
-  wide·grow = λ n radix digit. one _;
-  wide·text-len = λ w. one _;
-  wide·put-text = λ w out. both _ _;
-  wide·put-u16 = λ n out. one _;
-  wide·put-u32 = λ n out. one _;
-  wide·put-wide = λ w out. one _;
-  wide·u16-at = λ t at. one _;
-  wide·u32-at = λ t at. one _;
-  wide·wide-at = λ t at. seen-held WideFits value value-same _;
-  lexer·literal·grow = λ radix x b. one _;
-  lexer·literal·digits-from = λ src at radix. digits-same _ _;
-  lexer·literal·radix-of = λ b c. one _;
-  lexer·literal·concluded = λ minus start end x. seen-held LexedFits answerOf answer-same _;
-  lexer·next-token = λ src at. seen-held LexedFits answerOf answer-same _;
-  feeder·fresh = one _;
-  feeder·feed = λ s piece. seen-held FedFits fedOf fed-same _;
-  feeder·close = λ s. seen-held FedFits fedOf fed-same _;
-  feeder-lent·feed-in = λ s piece. fed-lent _;
-  feeder-lent·close-in = λ s. fed-lent _;
-  feeder-lent·feed-through = λ s piece. seen-held FedFits fedOf fed-same _;
-  feeder-lent·close-through = λ s. seen-held FedFits fedOf fed-same _;
-  records·len-at = λ t at. one _;
-  records·kind-at = λ t at. one _;
-  records·head-at = λ t at. one _;
-  records·put-head = λ kind len out. one _;
-  records·put = λ kind payload out. one _;
-  table·record-at = λ t at. one _;
-  table·is-symbol = λ s. one _;
-  table·step-at = λ t at deeper printing. one _;
-  table·past-symbol = λ t at. one _;
-  table·past = λ t at. one _;
-  table·check = λ t printing. seen verdictOf verdict-same _;
-  printer·print = λ t width out. seen-both printOf print-same _ _;
-  reader·read = λ src room. seen-both readOf read-same _ _;
+  lists·byte-at = λ κs a x y s t e f. e ∙ sym f;
+  lists·less = λ κs a x y s t e f. e ∙ sym f;
+  lists·least = λ κs a x y s t e f. least-same _ _ x y e f;
+  lists·put = λ κs a x y s t e f. (e .0 ∙ sym (f .0), e .1 ∙ sym (f .1));
+  classes·class-of = λ κs a x y s t e f. e ∙ sym f;
+  classes·is-blank = λ κs a x y s t e f. e ∙ sym f;
+  classes·is-line-end = λ κs a x y s t e f. e ∙ sym f;
+  classes·is-sym-first-char = λ κs a x y s t e f. e ∙ sym f;
+  classes·is-sym-other-char = λ κs a x y s t e f. e ∙ sym f;
+  classes·digit-of = λ κs a x y s t e f. e ∙ sym f;
+  classes·is-literal-byte = λ κs a x y s t e f. e ∙ sym f;
+  wide·as-unsigned = λ κs a x y s t e f. e ∙ sym f;
+  wide·negative = λ κs a x y s t e f. e ∙ sym f;
+  wide·with-sign = λ κs a x y s t h k e f. signed-same x y h k (e ∙ sym f);
+  wide·grow = λ κs a x y s t e f. e ∙ sym f;
+  wide·text-len = λ κs a x y s t e f. e ∙ sym f;
+  wide·put-text = λ κs a x y s t e f. (e .0 ∙ sym (f .0), e .1 ∙ sym (f .1));
+  wide·put-u16 = λ κs a x y s t e f. e ∙ sym f;
+  wide·put-u32 = λ κs a x y s t e f. e ∙ sym f;
+  wide·put-wide = λ κs a x y s t e f. e ∙ sym f;
+  wide·u16-at = λ κs a x y s t e f. e ∙ sym f;
+  wide·u32-at = λ κs a x y s t e f. e ∙ sym f;
+  wide·wide-at = λ κs a x y s t h k e f. value-same x y h k (e ∙ sym f);
+  lexer·literal·grow = λ κs a x y s t e f. e ∙ sym f;
+  lexer·literal·digits-from = λ κs a x y s t e f. digits-same x y (e .0 ∙ sym (f .0)) (e .1 ∙ sym (f .1));
+  lexer·literal·radix-of = λ κs a x y s t e f. e ∙ sym f;
+  lexer·literal·concluded = λ κs a x y s t h k e f. answer-same x y h k (e ∙ sym f);
+  lexer·next-token = λ κs a x y s t h k e f. answer-same x y h k (e ∙ sym f);
+  feeder·fresh = λ κs a x y s t e f. e ∙ sym f;
+  feeder·feed = λ κs a x y s t h k e f. fed-same x y h k (e ∙ sym f);
+  feeder·close = λ κs a x y s t h k e f. fed-same x y h k (e ∙ sym f);
+  feeder-lent·feed-through = λ κs a x y s t h k e f. fed-same x y h k (e ∙ sym f);
+  feeder-lent·close-through = λ κs a x y s t h k e f. fed-same x y h k (e ∙ sym f);
+  records·len-at = λ κs a x y s t e f. e ∙ sym f;
+  records·kind-at = λ κs a x y s t e f. e ∙ sym f;
+  records·head-at = λ κs a x y s t e f. e ∙ sym f;
+  records·put-head = λ κs a x y s t e f. e ∙ sym f;
+  records·put = λ κs a x y s t e f. e ∙ sym f;
+  table·record-at = λ κs a x y s t e f. e ∙ sym f;
+  table·is-symbol = λ κs a x y s t e f. e ∙ sym f;
+  table·step-at = λ κs a x y s t e f. e ∙ sym f;
+  table·past-symbol = λ κs a x y s t e f. e ∙ sym f;
+  table·past = λ κs a x y s t e f. e ∙ sym f;
+  table·check = λ κs a x y s t e f. verdict-same x y (e ∙ sym f);
+  reader·read = λ κs a x y s t e f. (read-same x y (e .0 ∙ sym (f .0)), e .1 ∙ sym (f .1));
+  printer·print = λ κs a x y s t e f. (print-same x y (e .0 ∙ sym (f .0)), e .1 ∙ sym (f .1));
+  feeder-lent·feed-in = λ s piece x y m n h k e f. lent-same x y m n h k (e ∙ sym f);
+  feeder-lent·close-in = λ s x y m n h k e f. lent-same x y m n h k (e ∙ sym f);
 }

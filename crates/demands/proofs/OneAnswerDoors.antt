@@ -1,20 +1,20 @@
 -- How little the promises of the doors for C leave open: two results that meet a promise are equal. Assumes nothing.
+use mathlib.Core.Path.{sym, _∙_}
 use Rattle.demands.specs.OneAnswerDoors.{OneAnswerDoors}
-use Rattle.demands.proofs.OneAnswer.{one, both}
 
 pub one-answer-doors : OneAnswerDoors
 one-answer-doors = record {
-  words·put-token = λ t start used. one _;
-  words·put-refusal = λ r used. one _;
-  words·put-length = λ n. one _;
-  words·put-lexed = λ l. one _;
-  words·put-out = λ o. one _;
-  tulbazhik-lex·tulbazhik-next-token = λ src at. one _;
-  tulbazhik-feed·tulbazhik-fresh = one _;
-  tulbazhik-feed·tulbazhik-feed = λ entry piece. both _ _;
-  tulbazhik-feed·tulbazhik-close = λ entry. both _ _;
-  tulbazhik-feed·states·pack = λ s. one _;
-  tulbazhik-feed·states·unpack = λ w. one _;
-  tulbazhik-trees·tulbazhik-read = λ src room. both _ _;
-  tulbazhik-trees·tulbazhik-print = λ t width room. both _ _;
+  words·put-token = λ κs a x y s t e f. e ∙ sym f;
+  words·put-refusal = λ κs a x y s t e f. e ∙ sym f;
+  words·put-length = λ κs a x y s t e f. e ∙ sym f;
+  words·put-lexed = λ κs a x y s t e f. e ∙ sym f;
+  words·put-out = λ κs a x y s t e f. e ∙ sym f;
+  tulbazhik-lex·tulbazhik-next-token = λ κs a x y s t e f. e ∙ sym f;
+  tulbazhik-feed·tulbazhik-fresh = λ κs a x y s t e f. e ∙ sym f;
+  tulbazhik-feed·tulbazhik-feed = λ κs a x y s t e f. (e .0 ∙ sym (f .0), e .1 ∙ sym (f .1));
+  tulbazhik-feed·tulbazhik-close = λ κs a x y s t e f. (e .0 ∙ sym (f .0), e .1 ∙ sym (f .1));
+  tulbazhik-feed·states·pack = λ κs a x y s t e f. e ∙ sym f;
+  tulbazhik-feed·states·unpack = λ κs a x y s t e f. e ∙ sym f;
+  tulbazhik-trees·tulbazhik-read = λ κs a x y s t e f. (e .0 ∙ sym (f .0), e .1 ∙ sym (f .1));
+  tulbazhik-trees·tulbazhik-print = λ κs a x y s t e f. (e .0 ∙ sym (f .0), e .1 ∙ sym (f .1));
 }

@@ -2,6 +2,7 @@ pub mod Driver
 pub mod DriverWords
 pub mod Rules
 pub mod PrintThenFeed
+pub mod LentPromises
 pub mod OneAnswer
 pub mod OneAnswerDoors
 pub mod Worked

@@ -1,69 +1,87 @@
 -- How little the promises leave open: of each public function, two results (and two lent memories) that meet its promise are equal: THEOREM one-answer.
-use Prim.Native.Nat.{ℕ, _+_, _*_, _-_, _^_, _≤_, _<_}
+-- A promise is the function's own contract (`Post`), as the prover reads it off the source: a clause that is lost there is lost here.
+use Prim.Native.Nat.{ℕ, _^_, _<_}
 use mathlib.Core.Path.{_≡_}
-use mathlib.Core.Bool.{Bool, false}
 use mathlib.Core.List.{List}
-use lib.ListN.{length, getD, drop}
-use lib.IntN.{ℤ, pos}
-use mir.Syntax.{w64}
-use mir.Val.{ofZ}
-use lib.Signed.{ltZ}
-use Rattle.refusals.specs.Numbers.{depthLimit}
-use Rattle.lists.specs.Over.{fitted}
-use Rattle.classes.specs.declared.Class.{Class}
-use Rattle.classes.specs.Classes.{classOf, blank, lineEnd, symbolFirst, symbolOther, digitOf, literalByte}
-use Rattle.wide.specs.declared.Limbs.{Limbs}
+use denote.Ref.{now}
 use Rattle.wide.specs.declared.Wide.{Wide}
-use Rattle.wide.specs.declared.Grown.{Grown}
 use Rattle.wide.specs.declared.Signed.{Signed}
 use Rattle.wide.specs.declared.Signed.the-variants as signed
-use Rattle.wide.specs.Value.{val, value, grown, integerOf, signedOf}
-use Rattle.wide.specs.Text.{integerText}
-use Rattle.wide.specs.Bytes.{le, numberIn, wideBytes, wideIn}
 use Rattle.lexer.specs.declared.Token.{Token as CodeToken}
 use Rattle.lexer.specs.declared.Token.the-variants as code
 use Rattle.lexer.specs.declared.Lexed.{Lexed}
 use Rattle.lexer.specs.declared.Lexed.the-variants as lexed
-use Rattle.lexer.specs.declared.literal.Digits.{Digits}
-use Rattle.lexer.specs.Tokens.{Token, answerOf}
-use Rattle.lexer.specs.declared.literal.Reading.{Reading}
-use Rattle.lexer.specs.declared.literal.Reading.the-variants.{Empty as NoDigit}
-use Rattle.lexer.specs.Literals.{grow, reading, literalEnd, radixOf, concluded}
-use Rattle.lexer.specs.Lexing.{nextToken}
 use Rattle.feeder.specs.declared.State.{State}
 use Rattle.feeder.specs.declared.Answer.{Answer}
 use Rattle.feeder.specs.declared.Answer.the-variants as answer
 use Rattle.feeder.specs.declared.Out.{Out}
 use Rattle.feeder.specs.declared.Fed.{Fed}
-use Rattle.feeder.specs.Feeding.{freshState, feedOf, closeOf, fedOf}
-use Rattle.records.specs.declared.Head.{Head}
-use Rattle.records.specs.Records.{headOf, headAt, record-of}
-use Rattle.table.specs.declared.Checked.{Checked}
-use Rattle.table.specs.Trees.{isSymbol}
-use Rattle.table.specs.declared.Record.{Record}
-use Rattle.table.specs.Records.{recordAt}
-use Rattle.table.specs.declared.Step.{Step}
-use Rattle.table.specs.Decoding.{stepAt, treeAt, tableOf, judged, verdictOf}
-use Rattle.table.specs.Past.{pastSymbol, pastOf}
-use Rattle.printer.specs.declared.Printed.{Printed}
-use Rattle.printer.specs.Printing.{printOf, printing as printingOf, printedInto}
-use Rattle.reader.specs.declared.Readout.{Readout}
-use Rattle.reader.specs.Reading.{readOf, reading as readingOf, readInto}
+use Rattle.demands.specs.LentPromises.{FedIn, ClosedIn}
+use Rattle.lists.proofs.byte_at.Reads as lists-byte-at
+use Rattle.lists.proofs.less.Reads as lists-less
+use Rattle.lists.proofs.least.Reads as lists-least
+use Rattle.lists.proofs.put.Reads as lists-put
+use Rattle.classes.proofs.class_of.Reads as classes-class-of
+use Rattle.classes.proofs.is_blank.Reads as classes-is-blank
+use Rattle.classes.proofs.is_line_end.Reads as classes-is-line-end
+use Rattle.classes.proofs.is_sym_first_char.Reads as classes-is-sym-first-char
+use Rattle.classes.proofs.is_sym_other_char.Reads as classes-is-sym-other-char
+use Rattle.classes.proofs.digit_of.Reads as classes-digit-of
+use Rattle.classes.proofs.is_literal_byte.Reads as classes-is-literal-byte
+use Rattle.wide.proofs.as_unsigned.Reads as wide-as-unsigned
+use Rattle.wide.proofs.negative.Reads as wide-negative
+use Rattle.wide.proofs.with_sign.Reads as wide-with-sign
+use Rattle.wide.proofs.grow.Reads as wide-grow
+use Rattle.wide.proofs.text_len.Reads as wide-text-len
+use Rattle.wide.proofs.put_text.Reads as wide-put-text
+use Rattle.wide.proofs.put_u16.Reads as wide-put-u16
+use Rattle.wide.proofs.put_u32.Reads as wide-put-u32
+use Rattle.wide.proofs.put_wide.Reads as wide-put-wide
+use Rattle.wide.proofs.u16_at.Reads as wide-u16-at
+use Rattle.wide.proofs.u32_at.Reads as wide-u32-at
+use Rattle.wide.proofs.wide_at.Reads as wide-wide-at
+use Rattle.lexer.proofs.literal.grow.Reads as lexer-literal-grow
+use Rattle.lexer.proofs.literal.digits_from.Reads as lexer-literal-digits-from
+use Rattle.lexer.proofs.literal.radix_of.Reads as lexer-literal-radix-of
+use Rattle.lexer.proofs.literal.concluded.Reads as lexer-literal-concluded
+use Rattle.lexer.proofs.next_token.Reads as lexer-next-token
+use Rattle.feeder.proofs.fresh.Reads as feeder-fresh
+use Rattle.feeder.proofs.feed.Reads as feeder-feed
+use Rattle.feeder.proofs.close.Reads as feeder-close
+use Rattle.feeder_lent.proofs.feed_through.Reads as feeder-lent-feed-through
+use Rattle.feeder_lent.proofs.close_through.Reads as feeder-lent-close-through
+use Rattle.records.proofs.len_at.Reads as records-len-at
+use Rattle.records.proofs.kind_at.Reads as records-kind-at
+use Rattle.records.proofs.head_at.Reads as records-head-at
+use Rattle.records.proofs.put_head.Reads as records-put-head
+use Rattle.records.proofs.put.Reads as records-put
+use Rattle.table.proofs.record_at.Reads as table-record-at
+use Rattle.table.proofs.is_symbol.Reads as table-is-symbol
+use Rattle.table.proofs.step_at.Reads as table-step-at
+use Rattle.table.proofs.past_symbol.Reads as table-past-symbol
+use Rattle.table.proofs.past.Reads as table-past
+use Rattle.table.proofs.check.Reads as table-check
+use Rattle.reader.proofs.read.Reads as reader-read
+use Rattle.printer.proofs.print.Reads as printer-print
 
--- two results that meet it are equal
-abbrev pub One : (A : Type 0) → (A → Type 0) → Type 0
-One A P = (a b : A) → P a → P b → a ≡ b
+-- A contract speaks of the lifetimes, the arguments, the result, and what is lent as it is at the function's end. Two results that meet it are equal
+abbrev pub One : {K : Type 0} {A R S : K → Type 0} → ((κs : K) → A κs → R κs → S κs → Type 0) → Type 0
+One {K} {A} {R} {S} P = (κs : K) (a : A κs) (x y : R κs) (s t : S κs) → P κs a x s → P κs a y t → x ≡ y
 
 -- the same for results that the machine can hold
-abbrev pub OneHeld : (A : Type 0) → (A → Type 0) → (A → Type 0) → Type 0
-OneHeld A H P = (a b : A) → H a → H b → P a → P b → a ≡ b
+abbrev pub OneHeld : {K C : Type 0} {A S : K → Type 0} → (C → Type 0) → ((κs : K) → A κs → C → S κs → Type 0) → Type 0
+OneHeld {K} {C} {A} {S} H P = (κs : K) (a : A κs) (x y : C) (s t : S κs) → H x → H y → P κs a x s → P κs a y t → x ≡ y
 
--- two results, each with what it leaves in lent memory
-abbrev pub Both : (A B : Type 0) → (A → B → Type 0) → Type 0
-Both A B P = (a b : A) (m n : B) → P a m → P b n → (a ≡ b) × (m ≡ n)
+-- what is left in the lent memory m; in two of them; and a result with it
+abbrev pub Left : {K B : Type 0} {A R S : K → Type 0} → ((κs : K) → A κs → R κs → S κs → Type 0) → ((κs : K) → S κs → B) → Type 0
+Left {K} {B} {A} {R} {S} P m = (κs : K) (a : A κs) (x y : R κs) (s t : S κs) → P κs a x s → P κs a y t → m κs s ≡ m κs t
 
-abbrev pub BothHeld : (A B : Type 0) → (A → Type 0) → (A → B → Type 0) → Type 0
-BothHeld A B H P = (a b : A) (m n : B) → H a → H b → P a m → P b n → (a ≡ b) × (m ≡ n)
+abbrev pub LeftTwo : {K B C : Type 0} {A R S : K → Type 0} → ((κs : K) → A κs → R κs → S κs → Type 0) → ((κs : K) → S κs → B) → ((κs : K) → S κs → C) → Type 0
+LeftTwo {K} {B} {C} {A} {R} {S} P m n =
+    (κs : K) (a : A κs) (x y : R κs) (s t : S κs) → P κs a x s → P κs a y t → (m κs s ≡ m κs t) × (n κs s ≡ n κs t)
+
+abbrev pub Both : {K B : Type 0} {A R S : K → Type 0} → ((κs : K) → A κs → R κs → S κs → Type 0) → ((κs : K) → S κs → B) → Type 0
+Both {K} {B} {A} {R} {S} P m = (κs : K) (a : A κs) (x y : R κs) (s t : S κs) → P κs a x s → P κs a y t → (x ≡ y) × (m κs s ≡ m κs t)
 
 -- the low limb of an integer that the machine can hold is below 2^64
 abbrev pub WideFits : Wide → Type 0
@@ -97,53 +115,54 @@ OutFits o = AnswerFits (o .answer)
 abbrev pub FedFits : Fed → Type 0
 FedFits f = OutFits (f .out)
 
--- a field a public function, its promise as the source has it; refusals has no function, the doors for C are in OneAnswerDoors
+-- a field a public function; refusals has none, the doors for C are in OneAnswerDoors
 pub record OneAnswer : Type 0 where
-  pub lists·byte-at : (s : List ℕ) (i : ℕ) → One ℕ (λ r. r ≡ getD s i 0)
-  pub lists·less : (a b : ℕ) → One ℕ (λ r. r ≡ a - b)
-  pub lists·least : (a b : ℕ) → One ℕ (λ r. (r ≤ b) × (a ≤ b → r ≡ a) × (b ≤ a → r ≡ b))
-  pub lists·put : (s out : List ℕ) → Both ℕ (List ℕ) (λ r exit. (r ≡ length s) × (exit ≡ fitted s out))
-  pub classes·class-of : (b : ℕ) → One Class (λ r. r ≡ classOf b)
-  pub classes·is-blank : (b : ℕ) → One Bool (λ r. r ≡ blank (classOf b))
-  pub classes·is-line-end : (b : ℕ) → One Bool (λ r. r ≡ lineEnd (classOf b))
-  pub classes·is-sym-first-char : (b : ℕ) → One Bool (λ r. r ≡ symbolFirst (classOf b))
-  pub classes·is-sym-other-char : (b : ℕ) → One Bool (λ r. r ≡ symbolOther (classOf b))
-  pub classes·digit-of : (b : ℕ) → One ℕ (λ r. r ≡ digitOf b)
-  pub classes·is-literal-byte : (b : ℕ) → One Bool (λ r. r ≡ literalByte b)
-  pub wide·as-unsigned : (z : ℤ) → One ℕ (λ r. r ≡ ofZ w64 z)
-  pub wide·negative : (w : Wide) → One Bool (λ r. r ≡ ltZ (value w) (pos 0))
-  pub wide·with-sign : (n : Limbs) (minus : Bool) → OneHeld Signed SignedFits (λ r. signedOf r ≡ integerOf minus (val n))
-  pub wide·grow : (n : Limbs) (radix digit : ℕ) → One Grown (λ r. r ≡ grown (val n * radix + digit))
-  pub wide·text-len : (w : Wide) → One ℕ (λ r. r ≡ length (integerText (value w)))
-  pub wide·put-text : (w : Wide) (out : List ℕ) → Both ℕ (List ℕ) (λ r exit. (r ≡ length (integerText (value w))) × (exit ≡ fitted (integerText (value w)) out))
-  pub wide·put-u16 : (n : ℕ) (out : List ℕ) → One (List ℕ) (λ exit. exit ≡ fitted (le 2 n) out)
-  pub wide·put-u32 : (n : ℕ) (out : List ℕ) → One (List ℕ) (λ exit. exit ≡ fitted (le 4 n) out)
-  pub wide·put-wide : (w : Wide) (out : List ℕ) → One (List ℕ) (λ exit. exit ≡ fitted (wideBytes (value w)) out)
-  pub wide·u16-at : (t : List ℕ) (at : ℕ) → One ℕ (λ r. r ≡ numberIn 2 t at)
-  pub wide·u32-at : (t : List ℕ) (at : ℕ) → One ℕ (λ r. r ≡ numberIn 4 t at)
-  pub wide·wide-at : (t : List ℕ) (at : ℕ) → OneHeld Wide WideFits (λ r. value r ≡ wideIn t at)
-  pub lexer·literal·grow : (radix : ℕ) (x : Reading) (b : ℕ) → One Reading (λ r. r ≡ grow radix x b)
-  pub lexer·literal·digits-from : (src : List ℕ) (at radix : ℕ) → One Digits (λ r. (r .reading ≡ reading radix NoDigit (drop at src)) × (r .end ≡ literalEnd (drop at src) at))
-  pub lexer·literal·radix-of : (b c : ℕ) → One ℕ (λ r. r ≡ radixOf b c)
-  pub lexer·literal·concluded : (minus : Bool) (start end : ℕ) (x : Reading) → OneHeld Lexed LexedFits (λ r. answerOf r ≡ concluded minus start end x)
-  pub lexer·next-token : (src : List ℕ) (at : ℕ) → OneHeld Lexed LexedFits (λ r. answerOf r ≡ nextToken src at)
-  pub feeder·fresh : One State (λ r. r ≡ freshState)
-  pub feeder·feed : (s : State) (piece : List ℕ) → OneHeld Fed FedFits (λ r. fedOf r ≡ feedOf s piece)
-  pub feeder·close : (s : State) → OneHeld Fed FedFits (λ r. fedOf r ≡ closeOf s)
-  pub feeder-lent·feed-in : (s : State) (piece : List ℕ) → BothHeld Out State OutFits (λ r exit. fedOf (record { out = r; state = exit }) ≡ feedOf s piece)
-  pub feeder-lent·close-in : (s : State) → BothHeld Out State OutFits (λ r exit. fedOf (record { out = r; state = exit }) ≡ closeOf s)
-  pub feeder-lent·feed-through : (s : State) (piece : List ℕ) → OneHeld Fed FedFits (λ r. fedOf r ≡ feedOf s piece)
-  pub feeder-lent·close-through : (s : State) → OneHeld Fed FedFits (λ r. fedOf r ≡ closeOf s)
-  pub records·len-at : (t : List ℕ) (at : ℕ) → One ℕ (λ r. r ≡ numberIn 4 t at)
-  pub records·kind-at : (t : List ℕ) (at : ℕ) → One ℕ (λ r. r ≡ numberIn 2 t (at + 4))
-  pub records·head-at : (t : List ℕ) (at : ℕ) → One Head (λ r. r ≡ headAt t at)
-  pub records·put-head : (kind len : ℕ) (out : List ℕ) → One (List ℕ) (λ exit. exit ≡ fitted (headOf kind len) out)
-  pub records·put : (kind : ℕ) (payload out : List ℕ) → One (List ℕ) (λ exit. exit ≡ fitted (record-of kind payload) out)
-  pub table·record-at : (t : List ℕ) (at : ℕ) → One Record (λ r. r ≡ recordAt t at)
-  pub table·is-symbol : (s : List ℕ) → One Bool (λ r. r ≡ isSymbol s)
-  pub table·step-at : (t : List ℕ) (at : ℕ) (deeper printing : Bool) → One Step (λ r. r ≡ stepAt t printing at deeper)
-  pub table·past-symbol : (t : List ℕ) (at : ℕ) → One ℕ (λ r. r ≡ pastSymbol t at)
-  pub table·past : (t : List ℕ) (at : ℕ) → One ℕ (λ r. r ≡ pastOf at (treeAt t false depthLimit at))
-  pub table·check : (t : List ℕ) (printing : Bool) → One Checked (λ r. verdictOf r ≡ judged (tableOf printing t))
-  pub printer·print : (t : List ℕ) (width : ℕ) (out : List ℕ) → Both Printed (List ℕ) (λ r exit. (printOf r ≡ printingOf t width (length out)) × (exit ≡ printedInto t width out))
-  pub reader·read : (src room : List ℕ) → Both Readout (List ℕ) (λ r exit. (readOf r ≡ readingOf src (length room)) × (exit ≡ readInto src room))
+  pub lists·byte-at : One lists-byte-at.Post
+  pub lists·less : One lists-less.Post
+  pub lists·least : One lists-least.Post
+  pub lists·put : Both lists-put.Post (λ κs s. now (s .1 .0))
+  pub classes·class-of : One classes-class-of.Post
+  pub classes·is-blank : One classes-is-blank.Post
+  pub classes·is-line-end : One classes-is-line-end.Post
+  pub classes·is-sym-first-char : One classes-is-sym-first-char.Post
+  pub classes·is-sym-other-char : One classes-is-sym-other-char.Post
+  pub classes·digit-of : One classes-digit-of.Post
+  pub classes·is-literal-byte : One classes-is-literal-byte.Post
+  pub wide·as-unsigned : One wide-as-unsigned.Post
+  pub wide·negative : One wide-negative.Post
+  pub wide·with-sign : OneHeld SignedFits wide-with-sign.Post
+  pub wide·grow : One wide-grow.Post
+  pub wide·text-len : One wide-text-len.Post
+  pub wide·put-text : Both wide-put-text.Post (λ κs s. now (s .1 .0))
+  pub wide·put-u16 : Left wide-put-u16.Post (λ κs s. now (s .1 .0))
+  pub wide·put-u32 : Left wide-put-u32.Post (λ κs s. now (s .1 .0))
+  pub wide·put-wide : Left wide-put-wide.Post (λ κs s. now (s .1 .0))
+  pub wide·u16-at : One wide-u16-at.Post
+  pub wide·u32-at : One wide-u32-at.Post
+  pub wide·wide-at : OneHeld WideFits wide-wide-at.Post
+  pub lexer·literal·grow : One lexer-literal-grow.Post
+  pub lexer·literal·digits-from : One lexer-literal-digits-from.Post
+  pub lexer·literal·radix-of : One lexer-literal-radix-of.Post
+  pub lexer·literal·concluded : OneHeld LexedFits lexer-literal-concluded.Post
+  pub lexer·next-token : OneHeld LexedFits lexer-next-token.Post
+  pub feeder·fresh : One feeder-fresh.Post
+  pub feeder·feed : OneHeld FedFits feeder-feed.Post
+  pub feeder·close : OneHeld FedFits feeder-close.Post
+  pub feeder-lent·feed-through : OneHeld FedFits feeder-lent-feed-through.Post
+  pub feeder-lent·close-through : OneHeld FedFits feeder-lent-close-through.Post
+  pub records·len-at : One records-len-at.Post
+  pub records·kind-at : One records-kind-at.Post
+  pub records·head-at : One records-head-at.Post
+  pub records·put-head : Left records-put-head.Post (λ κs s. now (s .1 .1 .0))
+  pub records·put : Left records-put.Post (λ κs s. now (s .1 .1 .0))
+  pub table·record-at : One table-record-at.Post
+  pub table·is-symbol : One table-is-symbol.Post
+  pub table·step-at : One table-step-at.Post
+  pub table·past-symbol : One table-past-symbol.Post
+  pub table·past : One table-past.Post
+  pub table·check : One table-check.Post
+  pub reader·read : Both reader-read.Post (λ κs s. now (s .1 .0))
+  pub printer·print : Both printer-print.Post (λ κs s. now (s .1 .1 .0))
+  -- the lent entrance: what its contracts say stands in LentPromises
+  pub feeder-lent·feed-in : (s : State) (piece : List ℕ) (x y : Out) (m n : State) → OutFits x → OutFits y → FedIn s piece x m → FedIn s piece y n → (x ≡ y) × (m ≡ n)
+  pub feeder-lent·close-in : (s : State) (x y : Out) (m n : State) → OutFits x → OutFits y → ClosedIn s x m → ClosedIn s y n → (x ≡ y) × (m ≡ n)
