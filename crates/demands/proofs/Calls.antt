@@ -7,12 +7,12 @@ use lib.ListN.{length, getD, take}
 use borrow.Author.Tests.{le-leb, lt-leb, lt-ltb}
 use Rattle.refusals.specs.Numbers.{sourceLimit, tooLong, fedAfterClose}
 use Rattle.refusals.specs.Result.{Result, ok, refused}
-use Rattle.classes.specs.Classes.{classOf}
+use Rattle.classes.specs.Classes.{classOf, digitOf, literalByte}
 use Rattle.lexer.specs.Tokens.{Token, past, Answer, end, is}
 use Rattle.lexer.specs.Literals.{grow, concluded}
 use Rattle.feeder.specs.declared.Half.{Half}
 use Rattle.feeder.specs.declared.Mode.{Mode}
-use Rattle.feeder.specs.declared.Mode.the-variants.{Blank, Symbol, Block, Digits}
+use Rattle.feeder.specs.declared.Mode.the-variants.{Blank, Symbol, Block, Digits, Sign}
 use Rattle.feeder.specs.declared.Phase.{Phase}
 use Rattle.feeder.specs.declared.Phase.the-variants.{Live, Closed, Refused}
 use Rattle.feeder.specs.declared.State.{State}
@@ -215,7 +215,7 @@ not-felt-of n d h l = let k : d < sourceLimit = omega arith in rw (lt-ltb d sour
 
 -- THEOREM calls: document 01's rules of a call
 pub calls : Rules
-unfolding feedOf closeOf closing turn classOf
+unfolding feedOf closeOf closing turn classOf literalByte digitOf
 calls = record {
   at-most = λ s q. most-in (s .phase) (s .place) q;
   whole = λ s q e. whole-in (s .phase) (s .place) q e;
@@ -240,6 +240,9 @@ calls = record {
   lparen-waits = λ p h. unfold feedFrom in byte-does Blank p 40 [] _ h refl;
   symbol-waits = λ st p b h e. unfold feedFrom in byte-does (Symbol st) p b [] (ok (Go (Symbol st))) h (rw e refl);
   literal-waits = λ st p b r minus x h e. unfold feedFrom in byte-does (Digits st minus r x) p b [] (ok (Go (Digits st minus r (grow r x b)))) h (rw e refl);
+  sign-waits = λ p h. unfold feedFrom in byte-does Blank p 45 [] _ h refl;
+  zero-waits = λ p h. unfold feedFrom in byte-does Blank p 48 [] _ h refl;
+  sign-zero-waits = λ st p h. unfold feedFrom in byte-does (Sign st) p 48 [] _ h refl;
   limit = λ m p b q h. limit-of m p b q h;
   last-rparen = λ q. byte-does Blank 1048575 41 q _ (omega arith) refl;
   last-at-sign = λ q. byte-does Blank 1048575 64 q _ (omega arith) refl;

@@ -14,7 +14,7 @@ use borrow.Author.Tests.{lt-ltb, ltb-true, ltb-false, lt-leb, ne-eqb}
 use Rattle.refusals.specs.Result.{ok}
 use Rattle.classes.specs.declared.Class.the-variants.{Digit}
 use Rattle.classes.specs.Classes.{classOf, semicolon, digitOf, literalByte}
-use Rattle.wide.specs.Value.{val, split, grown, is as isInteger, integerOf}
+use Rattle.wide.specs.Value.{split, grown, is as isInteger, integerOf}
 use Rattle.wide.specs.Text.{digits, digitsOf, integerText}
 use Rattle.wide.proofs.TwoLimbs.{split-val}
 use Rattle.lexer.specs.declared.literal.Reading.{Reading}

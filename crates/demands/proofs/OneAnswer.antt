@@ -25,7 +25,6 @@ use Rattle.feeder.specs.declared.Answer.the-variants as answer
 use Rattle.feeder.specs.declared.Out.{Out}
 use Rattle.feeder.specs.declared.Fed.{Fed}
 use Rattle.feeder.specs.Feeding.{Fed as Called, replyOf, fedOf}
-use Rattle.table.specs.Decoding.{verdictOf}
 use Rattle.table.proofs.Answers.{verdict-same}
 use Rattle.printer.specs.declared.Printed.{Printed}
 use Rattle.printer.specs.declared.Printed.the-variants as printed
@@ -33,7 +32,7 @@ use Rattle.printer.specs.Printing.{printOf}
 use Rattle.reader.specs.declared.Readout.{Readout}
 use Rattle.reader.specs.declared.Readout.the-variants as read
 use Rattle.reader.specs.Reading.{readOf}
-use Rattle.demands.specs.OneAnswer.{WideFits, SignedFits, TokenFits, LexedFits, AnswerFits, OutFits, FedFits, OneAnswer}
+use Rattle.demands.specs.OneAnswer.{SignedFits, TokenFits, LexedFits, AnswerFits, OutFits, FedFits, OneAnswer}
 
 -- ---- the views tell results apart that the machine can hold
 

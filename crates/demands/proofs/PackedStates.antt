@@ -1,5 +1,4 @@
 -- THEOREM packed-states: every state that a feeder can be in comes back from its words, so that the words a host keeps mean the state. Assumes nothing.
-use mathlib.Core.Path.{_≡_}
 use mathlib.Core.Bool.{Bool, true, false, _||_}
 use mathlib.Core.List.{List, [], _∷_}
 use Prim.Native.Nat.{ℕ, suc, _<_}

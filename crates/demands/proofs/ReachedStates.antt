@@ -16,7 +16,7 @@ use Rattle.classes.specs.Classes.{classOf, lineEnd, semicolon, rparen, symbolOt
 use Rattle.wide.specs.Value.{split}
 use Rattle.lexer.specs.declared.literal.Reading.{Reading}
 use Rattle.lexer.specs.declared.literal.Reading.the-variants.{Empty, Number}
-use Rattle.lexer.specs.Tokens.{token, past, Answer, end, is}
+use Rattle.lexer.specs.Tokens.{past, Answer, end, is}
 use Rattle.lexer.specs.Literals.{radixOf, concluded}
 use Rattle.feeder.specs.declared.Half.{Half}
 use Rattle.feeder.specs.declared.Half.the-variants.{Clear, Semi, Paren}
@@ -25,7 +25,7 @@ use Rattle.feeder.specs.declared.Mode.the-variants.{Blank, Line, Opener, Symbol
 use Rattle.feeder.specs.declared.Phase.{Phase}
 use Rattle.feeder.specs.declared.Phase.the-variants.{Live, Closed, Refused}
 use Rattle.feeder.specs.declared.State.{State}
-use Rattle.feeder.specs.Machine.{closing, Turn, Go, Stay, Take, endedBy, begun, out, deeper, inBlank, inBlock, inDigits, turn, step}
+use Rattle.feeder.specs.Machine.{closing, Turn, Go, Stay, Take, endedBy, begun, deeper, inBlank, inBlock, inDigits, turn, step}
 use Rattle.feeder.specs.Feeding.{Reply, more, finish, ready, Fed, stepped, feedFrom, feedIn, feedOf, shut, closeIn, closeOf}
 use Rattle.demands.specs.Rules.{Reached, fresh, feeds, closes}
 use Rattle.demands.proofs.HeldTokens.{Ends, from-start, concluded-ends}

@@ -12,7 +12,7 @@ use Rattle.lists.specs.Over.{fitted}
 use Rattle.wide.specs.Bytes.{le, number, numberIn}
 use Rattle.records.specs.declared.Head.the-variants.{Is}
 use Rattle.records.specs.Records.{headOf, record-of, headAt}
-use Rattle.lexer.specs.Tokens.{token, lparen, symbol}
+use Rattle.lexer.specs.Tokens.{token, lparen}
 use Rattle.feeder.specs.declared.State.{State}
 use Rattle.feeder.specs.declared.Mode.the-variants.{Blank, Symbol as InSymbol}
 use Rattle.feeder.specs.Machine.{turn, step, closing}

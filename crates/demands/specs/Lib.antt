@@ -7,3 +7,5 @@ pub mod OneAnswer
 pub mod OneAnswerDoors
 pub mod Worked
 pub mod WrongPrograms
+pub mod Theorems
+pub mod Promises

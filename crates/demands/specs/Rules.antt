@@ -1,7 +1,7 @@
 -- The rules of a call (document 01, 'Feeding in pieces'), as one statement over the contracts' own definitions of a feed and a close.
 use mathlib.Core.Path.{_≡_}
 use mathlib.Core.List.{List, [], _∷_}
-use mathlib.Core.Bool.{Bool, true}
+use mathlib.Core.Bool.{Bool, true, false}
 use Prim.Native.Nat.{ℕ, suc, _+_, _-_, _≤_, _<_}
 use lib.ListN.{length, getD, take}
 use Rattle.refusals.specs.Numbers.{sourceLimit, tooLong, openComment, noDigits, fedAfterClose}
@@ -90,6 +90,9 @@ pub record Rules : Type 0 where
   pub symbol-waits : (st p b : ℕ) → p < sourceLimit → symbolOther (classOf b) ≡ true → feedOf (live (Symbol st) p) (b ∷ []) ≡ fed (ok more) 1 (live (Symbol st) (suc p))
   pub literal-waits : (st p b r : ℕ) (minus : Bool) (x : Reading) → p < sourceLimit → literalByte b ≡ true
       → feedOf (live (Digits st minus r x) p) (b ∷ []) ≡ fed (ok more) 1 (live (Digits st minus r (grow r x b)) (suc p))
+  pub sign-waits : (p : ℕ) → p < sourceLimit → feedOf (live Blank p) (45 ∷ []) ≡ fed (ok more) 1 (live (Sign p) (suc p))
+  pub zero-waits : (p : ℕ) → p < sourceLimit → feedOf (live Blank p) (48 ∷ []) ≡ fed (ok more) 1 (live (Zero p false) (suc p))
+  pub sign-zero-waits : (st p : ℕ) → p < sourceLimit → feedOf (live (Sign st) p) (48 ∷ []) ≡ fed (ok more) 1 (live (Zero st true) (suc p))
   -- 'A call that has to look at a byte at place 1,048,576 or beyond is refused 1 there.' The byte before may still be handed out
   pub limit : (m : Mode) (p b : ℕ) (q : List ℕ) → sourceLimit ≤ p → feedOf (live m p) (b ∷ q) ≡ fed (refused tooLong sourceLimit) 0 (dead tooLong sourceLimit p)
   pub last-rparen : (q : List ℕ) → feedOf (live Blank 1048575) (41 ∷ q) ≡ fed (ok (ready (token rparen 1048575 1))) 1 (live Blank 1048576)

@@ -13,7 +13,7 @@ use Rattle.refusals.specs.Numbers.{sourceLimit, tooLong}
 use Rattle.refusals.specs.Result.{Result, ok, refused}
 use Rattle.classes.specs.declared.Class.{Class}
 use Rattle.classes.specs.Classes.{semicolon, rparen}
-use Rattle.lexer.specs.Tokens.{Token, Answer, is, tokenOf, answerOf}
+use Rattle.lexer.specs.Tokens.{Token, Answer, tokenOf, answerOf}
 use Rattle.lexer.specs.declared.Lexed.{Lexed}
 use Rattle.lexer.specs.declared.Lexed.the-variants as lexed
 use Rattle.feeder.specs.Machine.{Mode, Blank, Block, Half, Clear, Semi, Paren, half, out, deeper, inBlock, Turn, Go, Stay, Take, endedBy, turn, step}

@@ -1,20 +1,17 @@
 -- Block comments at a place of the source, a law for each outcome of a turn. Assumes nothing.
 use Prim.Native.Nat.{ℕ, zero, suc, _+_, _-_, _≤_, _<_}
 use mathlib.Core.Path.{_≡_, refl, sym, ap, _∙_}
-use mathlib.Core.List.{List, [], _∷_}
+use mathlib.Core.List.{List}
 use mathlib.Core.Bool.{Bool, true, false, cond, _&&_}
 use native.Mathlib.Numerals.{add-one}
 use native.Mathlib.Omega.{arith}
 use lib.ListN.{length, getD, drop, drop-of-length-le}
-use borrow.Author.Tests.{eqb-true}
 use Rattle.lists.proofs.Places.{from, first, within}
-use Rattle.lists.proofs.Choice.{pick, and-right}
 use Rattle.refusals.specs.Numbers.{openComment}
 use Rattle.classes.specs.declared.Class.{Class}
 use Rattle.classes.specs.declared.Class.the-variants.{Space, LineEnd, Semicolon, LParen, RParen, AtSign, FormFeed, Minus, Digit, Other}
 use Rattle.classes.specs.Classes.{classOf, lparen, rparen, semicolon}
 use Rattle.refusals.specs.Result.{refused}
-use Rattle.lexer.specs.Tokens.{Answer}
 use Rattle.lexer.specs.Lexing.{Skip, InBlock, Skipping, One, Two, leave, skip, lexIn}
 use Rattle.lexer.specs.PrivateBlocks.{markOf}
 use Rattle.lexer.specs.declared.Mark.{Mark}

@@ -1,18 +1,16 @@
 -- The definitions at a place of the source, a law for each outcome of a turn: line comments and symbols. Assumes nothing.
-use Prim.Native.Nat.{ℕ, zero, suc, _+_, _-_, _≤_, _<_}
-use mathlib.Core.Path.{_≡_, refl, sym, ap, _∙_}
-use mathlib.Core.List.{List, [], _∷_}
-use mathlib.Core.Bool.{Bool, true, false, cond}
+use Prim.Native.Nat.{ℕ, _+_, _-_, _≤_, _<_}
+use mathlib.Core.Path.{_≡_, refl, sym, ap}
+use mathlib.Core.List.{List}
+use mathlib.Core.Bool.{true, false}
 use native.Mathlib.Numerals.{add-one}
 use native.Mathlib.Omega.{arith}
 use lib.ListN.{length, getD, drop, drop-of-length-le}
 use Rattle.lists.proofs.Places.{from}
-use Rattle.lists.proofs.Choice.{pick}
-use Rattle.classes.specs.Classes.{classOf, blank, lineEnd, symbolOther}
+use Rattle.classes.specs.Classes.{classOf, lineEnd, symbolOther}
 use Rattle.classes.specs.declared.Class.{Class}
 use Rattle.classes.specs.declared.Class.the-variants.{Space, LineEnd, Semicolon, LParen, RParen, AtSign, FormFeed, Minus, Digit, Other}
-use Rattle.lexer.specs.Tokens.{Answer}
-use Rattle.lexer.specs.Lexing.{Skip, Between, InLine, Skipping, One, Two, Stop, skip, skipped, symbolEnd, lexIn}
+use Rattle.lexer.specs.Lexing.{Between, InLine, One, skip, symbolEnd, lexIn}
 
 -- a line end is a blank
 line-blank : (c c′ : Class) (i : ℕ) → lineEnd c ≡ true → skip Between c c′ i ≡ One Between

@@ -1,10 +1,9 @@
 -- Between tokens at a place of the source, a law for each class of the byte there. Assumes nothing.
 use Prim.Native.Nat.{ℕ, suc, _+_, _-_, _≤_, _<_}
 use mathlib.Core.Path.{_≡_, refl, sym, ap, _∙_}
-use mathlib.Core.List.{List, [], _∷_}
+use mathlib.Core.List.{List}
 use mathlib.Core.Bool.{Bool, true, false, cond}
 use native.Mathlib.Numerals.{add-one}
-use native.Mathlib.Nat.{add-zero}
 use native.Mathlib.Omega.{arith}
 use lib.Dec.{eqb}
 use lib.ListN.{length, getD, drop, drop-of-length-le}
@@ -12,10 +11,9 @@ use lib.Seq.{getD-drop, drop-drop}
 use Rattle.lists.proofs.Places.{from, first}
 use Rattle.refusals.specs.Numbers.{formFeed}
 use Rattle.refusals.specs.Result.{ok, refused}
-use Rattle.classes.specs.declared.Class.{Class}
 use Rattle.classes.specs.declared.Class.the-variants.{Space, LineEnd, Semicolon, LParen, RParen, AtSign, FormFeed, Minus, Digit, Other}
 use Rattle.classes.specs.Classes.{classOf, semicolon}
-use Rattle.lexer.specs.Tokens.{Answer, end, is, token, lparen, rparen, at-sign, symbol}
+use Rattle.lexer.specs.Tokens.{end, is, token, lparen, rparen, at-sign, symbol}
 use Rattle.lexer.specs.Literals.{radixOf, digitsIn, unsignedIn}
 use Rattle.lexer.specs.Lexing.{Between, InLine, InBlock, skip, symbolEnd, lexIn, lexAt}
 

@@ -3,7 +3,7 @@ use Prim.Native.Nat.{ℕ}
 use mathlib.Core.List.{List}
 use lib.IntN.{ℤ}
 use lib.ListN.{take, drop}
-use Rattle.lexer.specs.Tokens.{Kind, lparen, rparen, at-sign as at-token, symbol, int, Token}
+use Rattle.lexer.specs.Tokens.{Kind, lparen, rparen, at-sign as at-token, symbol, int}
 use Rattle.lexer.specs.Streams.{Series, ends, then, Stream}
 
 pub data Bare : Type 0 where

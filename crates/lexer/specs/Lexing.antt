@@ -1,7 +1,7 @@
 -- Uncut lexing, over the rest of the source: what to skip, then a token (document 01, 'How source becomes tokens').
 use Prim.Native.Nat.{ℕ, zero, suc, _+_, _-_}
 use mathlib.Core.List.{List, [], _∷_}
-use mathlib.Core.Bool.{Bool, true, false, cond, _&&_}
+use mathlib.Core.Bool.{true, false, cond, _&&_}
 use lib.Dec.{leb, ltb}
 use lib.ListN.{length, getD, drop}
 use Rattle.refusals.specs.Numbers.{sourceLimit, tooLong, pastSource, formFeed, openComment}
@@ -9,7 +9,7 @@ use Rattle.refusals.specs.Result.{ok, refused}
 use Rattle.classes.specs.declared.Class.{Class}
 use Rattle.classes.specs.declared.Class.the-variants.{Space, LineEnd, Semicolon, LParen, RParen, AtSign, FormFeed, Minus, Digit, Other}
 use Rattle.classes.specs.Classes.{classOf, blank, lineEnd, semicolon, lparen, rparen, symbolOther}
-use Rattle.lexer.specs.Tokens.{Kind, lparen as openParen, rparen as closeParen, at-sign, symbol, token, Answer, end, is}
+use Rattle.lexer.specs.Tokens.{lparen as openParen, rparen as closeParen, at-sign, symbol, token, Answer, end, is}
 use Rattle.lexer.specs.Literals.{unsignedIn}
 
 -- what is being skipped: blanks, a line comment, or block comments of a depth whose outermost opener is at a place

@@ -1,7 +1,7 @@
 -- Literals (document 01, 'How source becomes tokens', its last two rules before the token).
 use Prim.Native.Nat.{ℕ, suc, _+_, _-_, _*_}
 use mathlib.Core.List.{List, [], _∷_}
-use mathlib.Core.Bool.{Bool, true, false, cond, _&&_, _||_}
+use mathlib.Core.Bool.{Bool, cond, _||_}
 use lib.Dec.{eqb, leb}
 use lib.ListN.{drop, getD}
 use Rattle.refusals.specs.Numbers.{noDigits, foreignDigit, tooLarge, minusLowest}

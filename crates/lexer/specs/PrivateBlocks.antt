@@ -2,13 +2,12 @@
 use Prim.Native.Nat.{ℕ, _+_, _≤_}
 use mathlib.Core.List.{List}
 use mathlib.Core.Bool.{cond, _&&_}
-use lib.ListN.{drop}
 use Rattle.refusals.specs.Numbers.{openComment}
 use Rattle.refusals.specs.Result.{refused}
 use Rattle.classes.specs.declared.Class.{Class}
 use Rattle.classes.specs.Classes.{lparen, rparen, semicolon}
 use Rattle.lexer.specs.Tokens.{Answer}
-use Rattle.lexer.specs.Lexing.{Between, lexAt}
+use Rattle.lexer.specs.Lexing.{lexAt}
 use Rattle.lexer.specs.declared.Mark.{Mark}
 use Rattle.lexer.specs.declared.Mark.the-variants.{Opener, Closer, Neither}
 use Rattle.lexer.specs.declared.Block.{Block}

@@ -14,7 +14,7 @@ use Rattle.refusals.specs.Numbers.{tableLimit, depthLimit, tooLong}
 use Rattle.refusals.specs.Result.{Result, ok, refused}
 use Rattle.wide.specs.Bytes.{Bytes, wideIn}
 use Rattle.wide.specs.Text.{integerText}
-use Rattle.table.specs.Trees.{Tree, Trees, symbol, list, none, more, count, records}
+use Rattle.table.specs.Trees.{Tree, Trees, symbol, list, none, more, count}
 use Rattle.records.specs.Records.{headLen, payload}
 use Rattle.records.proofs.Heads.{part-lt, payload-size}
 use Rattle.table.specs.Kinds.{integerLen, listLen}

@@ -1,16 +1,14 @@
 -- A room that has the bytes of a text holds them in the end; one that is too short may hold anything. Assumes nothing.
-use mathlib.Core.Path.{_≡_, refl, ap, sym, subst, subst⁻¹, _∙_}
+use mathlib.Core.Path.{_≡_, refl, ap, subst, _∙_}
 use mathlib.Core.Bool.{Bool, true, false, cond}
 use mathlib.Core.List.{List, [], _∷_, _++_, append-assoc}
 use Prim.Native.Nat.{ℕ, _+_, _-_, _≤_, _<_}
 use native.Mathlib.Omega.{arith}
 use native.Mathlib.Numerals.{add-one}
-use lib.ListN.{length, take, drop, set, replicate, length-append, length-replicate}
-use borrow.Rule.Slice.PartMut.{putMid}
-use Rattle.lists.specs.Over.{over, fitted}
-use Rattle.lists.proofs.Blocks.{fitted-over}
-use Rattle.lists.proofs.Writing.{Wrote, wrote-lent, wrote-length, wrote-set, part-length}
-use Rattle.lists.specs.Rooms.{Filled, Puts}
+use lib.ListN.{length, set, replicate, length-replicate}
+use Rattle.lists.specs.Over.{over}
+use Rattle.lists.proofs.Writing.{Wrote, wrote-set}
+use Rattle.lists.specs.Rooms.{Puts}
 
 -- nothing, or something
 pub puts-none : (b : Bool) (o r : List ℕ) → b ≡ true → Puts (cond b [] o) 0 r r

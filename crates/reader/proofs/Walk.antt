@@ -19,7 +19,7 @@ use Rattle.lexer.proofs.Within.{limited}
 use Rattle.records.specs.Records.{headLen, record-of}
 use Rattle.records.proofs.Heads.{length-record}
 use Rattle.table.specs.Kinds.{symbolKind, bindingKind}
-use Rattle.table.specs.Trees.{Tree, Trees, symbol as symbolTree, binding, count, records, recordsOf}
+use Rattle.table.specs.Trees.{Tree, Trees, symbol as symbolTree, count, records, recordsOf}
 use Rattle.reader.specs.Grammar.{One, got, closed, ended, Many, upTo, toEnd, cons, onward, bound, nameOf, after, readItems, readTree}
 use Rattle.lists.specs.Rooms.{Filled, Puts}
 use Rattle.reader.specs.PrivateWalk.{Lexes, due, FilledFrom, TreeTold, ItemsTold, LeftKind, LeftOver, Seen, signOf, pastOf}

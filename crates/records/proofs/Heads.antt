@@ -1,7 +1,6 @@
 -- A record that stands at a place is read back, and what is read there stands there. Assumes nothing.
 use mathlib.Core.Path.{_≡_, refl, ap, sym, subst, _∙_}
-use mathlib.Core.Bool.{Bool}
-use mathlib.Core.List.{List, _++_}
+use mathlib.Core.List.{List}
 use Prim.Native.Nat.{ℕ, _+_, _-_, _^_, _≤_, _<_}
 use native.Mathlib.Omega.{arith}
 use lib.Dec.{ltb}
@@ -11,7 +10,7 @@ use Rattle.lists.proofs.Choice.{pick}
 use Rattle.lists.proofs.Stands.{Stands, stands-left, stands-right, stands-take, stands-length, stands-join, stands-part, part-size}
 use Rattle.wide.specs.Bytes.{Bytes, le, number, numberAt, numberIn}
 use Rattle.wide.proofs.Numbers.{bytes-part, le-length, le-number-of, number-le, number-lt}
-use Rattle.records.specs.Records.{Head, Cut, Is, headLen, headOf, record-of, lenAt, kindAt, payload, headBy, headAt}
+use Rattle.records.specs.Records.{Head, Cut, Is, headLen, headOf, record-of, lenAt, kindAt, payload, headAt}
 
 pub head-length : (kind len : ℕ) → length (headOf kind len) ≡ headLen
 unfolding le

@@ -9,7 +9,7 @@ use Rattle.lists.specs.Over.{over, fitted}
 use Rattle.lists.proofs.Blocks.{fitted-over}
 use Rattle.lists.proofs.Writing.{over-length, Wrote, wrote-lent, part-length}
 use Rattle.records.specs.Records.{headLen, headOf, record-of}
-use Rattle.records.proofs.Heads.{head-length, length-record}
+use Rattle.records.proofs.Heads.{head-length}
 
 -- in a room that has the record's bytes, and of which the part behind the head was lent on
 pub with-head : (kind len : ℕ) (p b₀ b ys : List ℕ) → length p + headLen ≡ len → len ≤ length b₀ → b ≡ fitted (headOf kind len) b₀

@@ -1,10 +1,10 @@
 -- What is found in a table is a good tree, and its records stand there. Assumes that the table's elements are bytes.
 use mathlib.Core.Path.{_≡_, refl, ap, sym, subst, _∙_}
 use mathlib.Core.Bool.{Bool, true}
-use mathlib.Core.List.{List, _++_}
+use mathlib.Core.List.{List}
 use Prim.Native.Nat.{ℕ, zero, suc, _+_, _-_, _^_, _≤_, _<_}
 use native.Mathlib.Omega.{arith}
-use lib.ListN.{length, take, drop, length-append}
+use lib.ListN.{length, length-append}
 use mir.Syntax.{w128}
 use mir.Val.{toZ}
 use Rattle.wide.specs.Bytes.{Bytes, le, numberAt, wideBytes}

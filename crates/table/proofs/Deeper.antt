@@ -6,7 +6,7 @@ use Prim.Native.Nat.{ℕ, zero, suc, _+_, _-_, _≤_}
 use native.Mathlib.Omega.{arith}
 use Rattle.refusals.specs.Numbers.{depthLimit, tooDeep}
 use Rattle.refusals.specs.Result.{Result, ok, refused}
-use Rattle.records.specs.Records.{headLen, payload}
+use Rattle.records.specs.Records.{payload}
 use Rattle.table.specs.Kinds.{listLen}
 use Rattle.table.specs.Trees.{Tree, Trees, binding, list, more}
 use Rattle.table.specs.Records.{Record, Symbol, Integer, Binding, ListOf, Bad, recordAt}

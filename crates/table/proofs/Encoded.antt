@@ -12,7 +12,7 @@ use mir.ValLaws.{ofZ-fits, toZ-ofZ}
 use borrow.Author.Tests.{lt-ltb}
 use Rattle.wide.specs.Bytes.{le, numberAt, wideBytes}
 use Rattle.wide.proofs.Numbers.{le-length, number-le, wide-length}
-use Rattle.refusals.specs.Result.{Result, ok, refused}
+use Rattle.refusals.specs.Result.{Result, ok}
 use Rattle.records.specs.Records.{headLen, record-of}
 use Rattle.records.proofs.Heads.{stood, stood-payload, length-record}
 use Rattle.table.specs.Kinds.{symbolKind, integerKind, bindingKind, listKind, listLen}

@@ -11,7 +11,6 @@ use borrow.Author.Tests.{lt-ltb, le-ltb}
 use Rattle.refusals.specs.Numbers.{tableLimit, depthLimit, tooLong}
 use Rattle.refusals.specs.Result.{Result, ok, refused}
 use Rattle.records.specs.Records.{headLen, payload}
-use Rattle.table.specs.Kinds.{listLen}
 use Rattle.table.specs.Trees.{Tree, Trees, symbol, none, more, count, isSymbol}
 use Rattle.table.specs.Records.{Record, Symbol, Integer, Binding, ListOf, Bad, recordAt}
 use Rattle.table.specs.Decoding.{Found, found, andThen, itemsAt, Step, stepOf, stepAt, ofStep, treeAt, treesAt, tableOf}

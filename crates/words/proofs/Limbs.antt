@@ -7,7 +7,7 @@ use mir.Syntax.{w64}
 use mir.Val.{SFits, ofZ}
 use Rattle.wide.specs.Value.{valueOf}
 use Rattle.wide.proofs.Signs.{bits-of}
-use Rattle.lexer.specs.Tokens.{Token, token, int}
+use Rattle.lexer.specs.Tokens.{token, int}
 use Rattle.words.specs.Words.{eight, intAnswer, tokenWords}
 
 -- the limbs are the high and the low 64 bits

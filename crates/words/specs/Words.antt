@@ -1,7 +1,6 @@
 -- An answer as eight words, for callers in C (host/include/tulbazhik.h). Every function of the doors answers in these, whatever it answers.
 use Prim.Native.Nat.{ℕ, _/_, _%_, _^_}
 use mathlib.Core.List.{List, [], _∷_}
-use lib.IntN.{ℤ}
 use mir.Syntax.{w128}
 use mir.Val.{ofZ}
 use Rattle.refusals.specs.Result.{Result, ok, refused}

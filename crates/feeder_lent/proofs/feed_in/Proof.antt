@@ -1,7 +1,7 @@
 -- `feeder_lent::feed_in` meets its contract: a walk of its MIR, by hand. The borrow of the state is opened, the state is copied and passed to `feed` with the piece, the state that `feed` returned is stored, and the borrow is closed at it.
 -- All that the proof knows of `feed` is that it meets its contract.
 -- Assumes nothing.
-use mathlib.Core.Path.{_≡_, refl, ap}
+use mathlib.Core.Path.{_≡_, refl}
 use Prim.Native.Nat.{ℕ}
 use mathlib.Core.List.{[], _∷_, List}
 use lib.ListN.{length}

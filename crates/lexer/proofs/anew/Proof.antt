@@ -2,8 +2,6 @@
 use borrow.Author.Needs.{needs}
 use Rattle.lexer.proofs.anew.Statement.{statement}
 use Rattle.lexer.proofs.anew.Tie as tie
-use Rattle.lexer.proofs.anew.Reads as reads
-use Rattle.lexer.proofs.anew.Lts as lts
 
 enum-told : tie.Need-enum-told
 enum-told c = search needs

@@ -8,7 +8,6 @@ use denote.Ref.{now}
 use borrow.Author.Needs.{needs}
 use borrow.Author.Tests.{le-leb, lt-leb}
 use Rattle.classes.specs.Classes.{classOf}
-use Rattle.lexer.specs.declared.Mark.{Mark}
 use Rattle.lexer.specs.Lexing.{InBlock, lexIn, leave}
 use Rattle.lexer.specs.PrivateBlocks.{markOf}
 use Rattle.lexer.proofs.Comments.{two-open, two-close, block-past, block-open, block-close, block-go}

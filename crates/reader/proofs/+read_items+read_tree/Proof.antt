@@ -1,5 +1,5 @@
 -- `reader::read_items` and `reader::read_tree`: the source bytes left, paired with a phase, fall; the loop over items is one record.
-use mathlib.Core.Path.{refl, sym, subst, subst⁻¹, _∙_}
+use mathlib.Core.Path.{refl, sym, subst⁻¹, _∙_}
 use Prim.Native.Nat.{ℕ, suc, _+_, _*_, _-_, _<_}
 use native.Mathlib.Omega.{arith}
 use lib.Dec.{ltb}

@@ -3,10 +3,6 @@ use borrow.Author.Needs.{needs}
 use Rattle.records.proofs.Heads.{past-end, too-few, cut, below, headed}
 use Rattle.records.proofs.head_at.Statement.{statement}
 use Rattle.records.proofs.head_at.Tie as tie
-use Rattle.records.proofs.head_at.Reads as reads
-use Rattle.records.proofs.head_at.Lts as lts
-use Rattle.wide.proofs.u16_at.Reads as u16-at-reads
-use Rattle.wide.proofs.u32_at.Reads as u32-at-reads
 
 returns : tie.Need-returns
 returns c = past-end _ _ (c .if1 .taken)

@@ -8,9 +8,6 @@ use borrow.Author.Tests.{lt-leb}
 use borrow.Author.Needs.{needs}
 use Rattle.records.proofs.kind_at.Statement.{statement}
 use Rattle.records.proofs.kind_at.Tie as tie
-use Rattle.records.proofs.kind_at.Reads as reads
-use Rattle.records.proofs.kind_at.Lts as lts
-use Rattle.wide.proofs.u16_at.Reads as u16-at-reads
 
 returns : tie.Need-returns
 returns c = let a = c .before .before .args in sym (rw (lt-leb (a .at + 4 + 2) (length (now (a .t))) (omega (arith, c .if1 .taken))) refl)

@@ -11,10 +11,6 @@ use Rattle.records.proofs.Putting.{with-head}
 use borrow.Author.Needs.{needs}
 use Rattle.records.proofs.put.Statement.{statement}
 use Rattle.records.proofs.put.Tie as tie
-use Rattle.records.proofs.put.Reads as reads
-use Rattle.records.proofs.put.Lts as lts
-use Rattle.lists.proofs.put.Reads as put-reads
-use Rattle.records.proofs.put_head.Reads as put-head-reads
 
 returns : tie.Need-returns
 returns c = let a = c .before .before .before .args in no-room (record-of (a .kind) (now (a .payload))) _ (omega (arith, length-record (a .kind) (now (a .payload))))

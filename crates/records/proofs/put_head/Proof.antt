@@ -1,5 +1,4 @@
 -- `records::put_head`: bytes stored one by one at known places.
-use mathlib.Core.List.{_++_}
 use native.Mathlib.Omega.{arith}
 use lib.ListN.{length-set}
 use lib.Seq.{sets-eq}
@@ -10,8 +9,6 @@ use Rattle.records.proofs.Heads.{head-length}
 use borrow.Author.Needs.{needs}
 use Rattle.records.proofs.put_head.Statement.{statement}
 use Rattle.records.proofs.put_head.Tie as tie
-use Rattle.records.proofs.put_head.Reads as reads
-use Rattle.records.proofs.put_head.Lts as lts
 
 returns : tie.Need-returns
 returns c = let a = c .before .args in no-room (headOf (a .kind) (a .len)) _ (omega (arith, head-length (a .kind) (a .len)))

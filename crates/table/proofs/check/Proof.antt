@@ -9,9 +9,6 @@ use Rattle.table.proofs.Steps.{Read, too-long, read-begin, read-tree, r
 use Rattle.table.proofs.Checking.{passed, refusal}
 use Rattle.table.proofs.check.Statement.{statement}
 use Rattle.table.proofs.check.Tie as tie
-use Rattle.table.proofs.check.Reads as reads
-use Rattle.table.proofs.check.Lts as lts
-use Rattle.table.proofs.check_tree.Reads as check-tree-reads
 
 abbrev Inv-loop : tie.InvT-loop
 Inv-loop t printing p₀ p = Read t printing p

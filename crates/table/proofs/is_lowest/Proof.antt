@@ -14,9 +14,6 @@ use Rattle.records.specs.Records.{headLen}
 use Rattle.records.proofs.Heads.{part-lt}
 use Rattle.table.proofs.is_lowest.Statement.{statement}
 use Rattle.table.proofs.is_lowest.Tie as tie
-use Rattle.table.proofs.is_lowest.Reads as reads
-use Rattle.table.proofs.is_lowest.Lts as lts
-use Rattle.wide.proofs.wide_at.Reads as wide-at-reads
 
 add-wide-at : tie.Need-add-wide-at
 add-wide-at c = search needs

@@ -5,9 +5,6 @@ use Rattle.table.specs.Trees.{isSymbol}
 use Rattle.table.proofs.Checking.{part}
 use Rattle.table.proofs.is_name.Statement.{statement}
 use Rattle.table.proofs.is_name.Tie as tie
-use Rattle.table.proofs.is_name.Reads as reads
-use Rattle.table.proofs.is_name.Lts as lts
-use Rattle.table.proofs.is_symbol.Reads as is-symbol-reads
 
 add-start : tie.Need-add-start
 add-start c = search needs

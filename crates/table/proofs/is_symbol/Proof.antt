@@ -7,10 +7,6 @@ use Rattle.table.specs.Trees.{runsOn, isSymbol}
 use Rattle.table.proofs.Names.{empty, not-first, begins, goes, stopped, over}
 use Rattle.table.proofs.is_symbol.Statement.{statement}
 use Rattle.table.proofs.is_symbol.Tie as tie
-use Rattle.table.proofs.is_symbol.Reads as reads
-use Rattle.table.proofs.is_symbol.Lts as lts
-use Rattle.classes.proofs.is_sym_first_char.Reads as is-sym-first-char-reads
-use Rattle.classes.proofs.is_sym_other_char.Reads as is-sym-other-char-reads
 
 abbrev Inv-loop : tie.InvT-loop
 Inv-loop s i₀ i = runsOn (drop i s) ≡ isSymbol s

@@ -3,9 +3,6 @@ use borrow.Author.Needs.{needs}
 use Rattle.table.proofs.Checking.{past-is, past-none}
 use Rattle.table.proofs.past.Statement.{statement}
 use Rattle.table.proofs.past.Tie as tie
-use Rattle.table.proofs.past.Reads as reads
-use Rattle.table.proofs.past.Lts as lts
-use Rattle.table.proofs.check_tree.Reads as check-tree-reads
 
 check-tree-requires : tie.Need-check-tree-requires
 check-tree-requires c κs = search needs

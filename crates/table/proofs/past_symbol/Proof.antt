@@ -7,10 +7,6 @@ use Rattle.table.proofs.Reading.{symbol-in}
 use Rattle.table.proofs.Steps.{then-is, else-is, symbol-is}
 use Rattle.table.proofs.past_symbol.Statement.{statement}
 use Rattle.table.proofs.past_symbol.Tie as tie
-use Rattle.table.proofs.past_symbol.Reads as reads
-use Rattle.table.proofs.past_symbol.Lts as lts
-use Rattle.table.proofs.is_name.Reads as is-name-reads
-use Rattle.table.proofs.record_at.Reads as record-at-reads
 
 record-at-requires : tie.Need-record-at-requires
 record-at-requires c κs = search needs

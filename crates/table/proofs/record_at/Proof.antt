@@ -10,10 +10,6 @@ use Rattle.table.proofs.Reading.{record-is}
 use borrow.Author.Tests.{ne-eqb}
 use Rattle.table.proofs.record_at.Statement.{statement}
 use Rattle.table.proofs.record_at.Tie as tie
-use Rattle.table.proofs.record_at.Reads as reads
-use Rattle.table.proofs.record_at.Lts as lts
-use Rattle.records.proofs.head_at.Reads as head-at-reads
-use Rattle.wide.proofs.u32_at.Reads as u32-at-reads
 
 head-at-requires : tie.Need-head-at-requires
 head-at-requires c κs = search needs

@@ -8,11 +8,6 @@ use Rattle.table.proofs.Reading.{symbol-in, binding-in, integer-in}
 use Rattle.table.proofs.Steps.{then-is, else-is, judged-is}
 use Rattle.table.proofs.step_at.Statement.{statement}
 use Rattle.table.proofs.step_at.Tie as tie
-use Rattle.table.proofs.step_at.Reads as reads
-use Rattle.table.proofs.step_at.Lts as lts
-use Rattle.table.proofs.is_lowest.Reads as is-lowest-reads
-use Rattle.table.proofs.is_name.Reads as is-name-reads
-use Rattle.table.proofs.record_at.Reads as record-at-reads
 
 record-at-requires : tie.Need-record-at-requires
 record-at-requires c κs = search needs

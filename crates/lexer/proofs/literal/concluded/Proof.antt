@@ -1,5 +1,5 @@
 -- `lexer::literal::concluded`: a line for each reading.
-use mathlib.Core.Path.{_≡_, sym, ap, _∙_}
+use mathlib.Core.Path.{sym, ap, _∙_}
 use Rattle.wide.specs.Value.{signedOf}
 use Rattle.lexer.specs.Literals.{concluded}
 use borrow.Author.Needs.{needs}

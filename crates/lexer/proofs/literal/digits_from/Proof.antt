@@ -1,5 +1,5 @@
 -- `lexer::literal::digits_from`: at each place, what is left to read and where it ends is what was to be read at the start.
-use Prim.Native.Nat.{ℕ, _-_, _<_}
+use Prim.Native.Nat.{_-_}
 use mathlib.Core.Path.{_≡_, refl, sym, _∙_}
 use native.Mathlib.Omega.{arith}
 use lib.ListN.{length, drop}

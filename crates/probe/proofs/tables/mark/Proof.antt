@@ -1,6 +1,5 @@
 -- `probe::tables::mark`: the loop over the room, which keeps its length.
 use Prim.Native.Nat.{_≤_, _-_}
-use native.Mathlib.Omega.{arith}
 use mathlib.Core.Path.{_≡_}
 use borrow.Author.Needs.{needs}
 use lib.ListN.{length, length-set}

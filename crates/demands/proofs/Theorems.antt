@@ -1,0 +1,33 @@
+-- All theorems, by name. Assumes nothing.
+use Rattle.table.proofs.Whole as table
+use Rattle.reader.proofs.ReadGood as reader-good
+use Rattle.reader.proofs.ReadTokens as reader-tokens
+use Rattle.reader.proofs.ReadAccepts as reader-accepts
+use Rattle.demands.specs.Theorems.{Theorems}
+use Rattle.demands.proofs.OneAnswer as the-one
+use Rattle.demands.proofs.OneAnswerDoors as the-doors
+use Rattle.demands.proofs.Worked as the-cases
+use Rattle.demands.proofs.WrongPrograms as the-wrong
+use Rattle.demands.proofs.CutAnywhere as the-cut
+use Rattle.demands.proofs.PackedStates as the-states
+use Rattle.demands.proofs.CutWords as the-words
+use Rattle.demands.proofs.Calls as the-rules
+use Rattle.demands.proofs.PrintThenFeed as the-print
+
+pub theorems : Theorems
+theorems = record {
+  one-answer = the-one.one-answer;
+  one-answer-doors = the-doors.one-answer-doors;
+  worked = the-cases.worked;
+  wrong-programs = the-wrong.wrong-programs;
+  sound = table.sound;
+  complete = table.complete;
+  read-good = reader-good.read-good;
+  read-tokens = reader-tokens.read-tokens;
+  read-accepts = reader-accepts.read-accepts;
+  cut-anywhere = the-cut.cut-anywhere;
+  packed-states = the-states.packed-states;
+  cut-anywhere-words = the-words.cut-anywhere-words;
+  calls = the-rules.calls;
+  print-then-feed = the-print.print-then-feed;
+}

@@ -1,0 +1,46 @@
+-- All theorems, in the order of the firm's demands: what each says, and the file that has its parts. They are proved in proofs/Theorems.
+use mathlib.Core.Path.{_≡_}
+use mathlib.Core.Bool.{Bool, true}
+use mathlib.Core.List.{List}
+use Prim.Native.Nat.{ℕ, _≤_}
+use lib.ListN.{length}
+use Rattle.refusals.specs.Numbers.{tableLimit, depthLimit}
+use Rattle.refusals.specs.Result.{ok}
+use Rattle.wide.specs.Bytes.{Bytes}
+use Rattle.table.specs.Trees.{Trees, Goods, recordsOf}
+use Rattle.table.specs.Decoding.{found, tableOf}
+use Rattle.table.specs.Printable.{Printables}
+use Rattle.table.specs.Accepted.{Accepted}
+use Rattle.reader.specs.Promised.{ReadGood, ReadTokens, ReadAccepts}
+use Rattle.demands.specs.OneAnswer.{OneAnswer}
+use Rattle.demands.specs.OneAnswerDoors.{OneAnswerDoors}
+use Rattle.demands.specs.Worked.{Worked}
+use Rattle.demands.specs.WrongPrograms.{WrongPrograms}
+use Rattle.demands.specs.Driver.{CutAnywhere}
+use Rattle.demands.specs.DriverWords.{PackedStates, CutAnywhereWords}
+use Rattle.demands.specs.Rules.{Rules}
+use Rattle.demands.specs.PrintThenFeed.{PrintThenFeed}
+
+pub record Theorems : Type 0 where
+  -- Demand 1: every call ends with a defined answer. That it ends and what it answers is each function's contract; that the contract leaves nothing open:
+  pub one-answer : OneAnswer
+  pub one-answer-doors : OneAnswerDoors
+  -- Demand 2: tokens and layout are defined by the rules, and reading and printing refuse exactly when document 01 says. Its worked cases, and the wrong programs:
+  pub worked : Worked
+  pub wrong-programs : WrongPrograms
+  -- a table that is accepted is the records of good trees, and the records of good trees are accepted; w says that the table is to be printed
+  pub sound : (w : Bool) (t : List ℕ) (xs : Trees) (q : ℕ) → Bytes t → tableOf w t ≡ ok (found xs q) → Accepted w t xs q
+  pub complete : (w : Bool) (xs : Trees) → Goods xs depthLimit → (w ≡ true → Printables xs) → length (recordsOf xs) ≤ tableLimit
+      → tableOf w (recordsOf xs) ≡ ok (found xs (length (recordsOf xs)))
+  -- what is read is a good table; its tokens are the source's; whatever is the text of trees within the limits is read
+  pub read-good : ReadGood
+  pub read-tokens : ReadTokens
+  pub read-accepts : ReadAccepts
+  -- Demand 3: a source cut anywhere, fed and closed, yields the tokens, places and refusal of the uncut one; by value, and through the words of the doors for C
+  pub cut-anywhere : CutAnywhere
+  pub packed-states : PackedStates
+  pub cut-anywhere-words : CutAnywhereWords
+  -- the rules of a call
+  pub calls : Rules
+  -- what is printed, so fed, yields exactly the table's tokens, then the end
+  pub print-then-feed : PrintThenFeed
