@@ -219,14 +219,23 @@ wide-none : Not (replicate 16 9 ≡ fitted (wideBytes (pos 0)) (replicate 16 9))
 unfolding le
 wide-none e = let z : _≡_ {A = ℕ} 9 0 = cc in omega arith
 
--- wide::u16_at, u32_at: the most significant byte first; what is left of a number that the end cuts
-at-order : Not (1 ≡ numberIn 2 (0 ∷ 1 ∷ []) 0)
+-- wide::u16_at: the most significant byte first; what is left of a number that the end cuts
+u16-at-order : Not (513 ≡ numberIn 2 (2 ∷ 1 ∷ []) 0)
 unfolding number
-at-order e = omega arith
+u16-at-order e = omega arith
 
-at-cut : Not (7 ≡ numberIn 4 (7 ∷ 0 ∷ 0 ∷ []) 0)
+u16-at-cut : Not (7 ≡ numberIn 2 (7 ∷ []) 0)
 unfolding number
-at-cut e = omega arith
+u16-at-cut e = omega arith
+
+-- wide::u32_at: two bytes for four; what is left of a number that the end cuts
+u32-at-two : Not (1 ≡ numberIn 4 (1 ∷ 0 ∷ 1 ∷ 0 ∷ []) 0)
+unfolding number
+u32-at-two e = omega arith
+
+u32-at-cut : Not (7 ≡ numberIn 4 (7 ∷ 0 ∷ 0 ∷ []) 0)
+unfolding number
+u32-at-cut e = omega arith
 
 -- wide::wide_at: read without a sign; 16 bytes that the end cuts
 wide-unsigned : Not (pos (2 ^ 128 - 1) ≡ wideIn (replicate 16 255) 0)
@@ -274,7 +283,7 @@ unfolding concluded
 concluded-place e = let z : _≡_ {A = ℕ} 4 0 = cc in omega arith
 
 -- lexer::next_token: a comment that ends at the first `;)`; `12ab` as 12; vertical tab as a blank
-next-first-closer : Not (ok (is (token symbol 6 3)) ≡ nextToken (40 ∷ 59 ∷ 40 ∷ 59 ∷ 59 ∷ 41 ∷ 120 ∷ 59 ∷ 41 ∷ []) 0)
+next-first-closer : Not (ok (is (token symbol 6 1)) ≡ nextToken (40 ∷ 59 ∷ 40 ∷ 59 ∷ 59 ∷ 41 ∷ 120 ∷ 59 ∷ 41 ∷ []) 0)
 unfolding nextToken lexIn skip symbolEnd classOf literalByte digitOf taken grow reading literalEnd radixOf concluded unsignedIn val grown integerOf
 next-first-closer e = let z : _≡_ {A = ℕ} 0 1 = cc in omega arith
 

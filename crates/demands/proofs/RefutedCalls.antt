@@ -25,9 +25,12 @@ use Rattle.table.specs.Records.{recordAt}
 use Rattle.table.specs.Decoding.{itemsAt, stepAt, treeAt, treesAt, tableOf, judged}
 use Rattle.demands.proofs.Refuted.{Not}
 
--- feeder::fresh: a byte was consumed
+-- feeder::fresh: a byte was consumed; it is closed
 fresh-consumed : Not (live Blank 1 ≡ freshState)
 fresh-consumed e = let z : _≡_ {A = ℕ} 1 0 = ap (λ (s : State). s .place) e in omega arith
+
+fresh-closed : Not (closed 0 ≡ freshState)
+fresh-closed e = let h = ap (λ (s : State). s .phase) e in let z : _≡_ {A = ℕ} 0 1 = cc h in omega arith
 
 -- feeder::feed: `(` handed out before its next byte; `)` kept back; a form feed consumed; fed after a close
 feed-early : Not (fed (ok (ready (token lparen 0 1))) 1 (live Blank 1) ≡ feedOf freshState (40 ∷ []))
@@ -55,14 +58,23 @@ close-again : Not (fed (refused 19 5) 0 (closed 5) ≡ closeOf (closed 5))
 unfolding closeOf
 close-again e = let r = ap (λ (f : Fed). f .reply) e in let z : _≡_ {A = ℕ} 0 1 = cc r in omega arith
 
--- records::len_at, kind_at: the one for the other
+-- records::len_at: the kind; what is left of a length that the end cuts
 len-kind : Not (1 ≡ numberIn 4 (7 ∷ 0 ∷ 0 ∷ 0 ∷ 1 ∷ 0 ∷ 97 ∷ []) 0)
 unfolding number
 len-kind e = omega arith
 
+len-cut : Not (7 ≡ numberIn 4 (7 ∷ 0 ∷ 0 ∷ []) 0)
+unfolding number
+len-cut e = omega arith
+
+-- records::kind_at: the length; one where the head is cut
 kind-len : Not (7 ≡ numberIn 2 (7 ∷ 0 ∷ 0 ∷ 0 ∷ 1 ∷ 0 ∷ 97 ∷ []) 4)
 unfolding number
 kind-len e = omega arith
+
+kind-cut : Not (1 ≡ numberIn 2 (7 ∷ 0 ∷ 0 ∷ 0 ∷ 1 ∷ []) 4)
+unfolding number
+kind-cut e = omega arith
 
 -- records::head_at: a length past the end; one below a head's
 head-past : Not (Is 1 7 ≡ headAt (7 ∷ 0 ∷ 0 ∷ 0 ∷ 1 ∷ 0 ∷ []) 0)

@@ -32,7 +32,7 @@ a = symbol (97 ∷ [])
 pub wrong-programs : WrongPrograms
 unfolding driveBy feedOf feedFrom closeOf closing step turn classOf tokensFrom nextToken lexIn skip symbolEnd printedInto tableOf treesAt treeAt itemsAt recordAt headAt stepAt number isSymbol runsOn breakColumn fitsIn cost lay pageFrom records record-of le
 wrong-programs = record {
-  refuses-all = λ e. let z : _≡_ {A = ℕ} 0 1 = cc in omega arith;
+  refuses-all = λ number place e. let z : _≡_ {A = ℕ} 0 1 = cc in omega arith;
   first-piece = λ e. no-token (token rparen 1 1) (ap (λ (f : Fed). f .reply) e);
   first-piece-cut = λ e. let z : _≡_ {A = ℕ} 0 1 = cc in omega arith;
   whole-piece = λ e. let z : _≡_ {A = ℕ} 2 1 = ap (λ (f : Fed). f .used) e in omega arith;

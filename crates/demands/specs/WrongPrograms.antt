@@ -5,7 +5,6 @@ use mathlib.Core.Bool.{cond}
 use Prim.Native.Nat.{ℕ, _+_, _-_, _^_}
 use lib.Dec.{eqb}
 use lib.ListN.{length}
-use Rattle.refusals.specs.Numbers.{formFeed}
 use Rattle.refusals.specs.Result.{ok, refused}
 use Rattle.lists.specs.Over.{over}
 use Rattle.lexer.specs.Tokens.{Answer}
@@ -18,9 +17,9 @@ use Rattle.printer.specs.Layout.{page}
 use Rattle.printer.specs.Printing.{printedInto}
 use Rattle.demands.specs.Driver.{driveBy}
 
--- a lexer that refuses everything
-abbrev pub refusesAll : List ℕ → ℕ → Answer
-refusesAll s i = refused formFeed i
+-- a lexer that refuses everything, with any number and any place
+abbrev pub refusesAll : (number place : List ℕ → ℕ → ℕ) → List ℕ → ℕ → Answer
+refusesAll number place s i = refused (number s i) (place s i)
 
 -- a feeder that lexes the first piece and answers "more" to the rest; one that invents the bytes consumed, always the whole piece
 abbrev pub firstPiece : State → List ℕ → Fed
@@ -52,7 +51,7 @@ untouched t w b = b
 
 pub record WrongPrograms : Type 0 where
   -- `a` is a symbol
-  pub refuses-all : refusesAll (97 ∷ []) 0 ≡ nextToken (97 ∷ []) 0 → ⊥
+  pub refuses-all : (number place : List ℕ → ℕ → ℕ) → refusesAll number place (97 ∷ []) 0 ≡ nextToken (97 ∷ []) 0 → ⊥
   -- the promise is broken at the `)` of ` )`, cut before it; and a host that feeds ` ` and `)` gets no token
   pub first-piece : firstPiece (feedOf freshState (32 ∷ []) .state) (41 ∷ []) ≡ feedOf (feedOf freshState (32 ∷ []) .state) (41 ∷ []) → ⊥
   pub first-piece-cut : driveBy firstPiece closeOf 9 freshState ((32 ∷ []) ∷ (41 ∷ []) ∷ []) ≡ tokensOf (32 ∷ 41 ∷ []) → ⊥
