@@ -1,4 +1,4 @@
--- Document 01, 'Worked by hand': the layout cases marked P, and lists that hold empty lists, as one statement. Assumes nothing.
+-- Document 01, 'Worked by hand': the layout layouts marked P, and lists that hold empty lists, as one statement. Assumes nothing.
 use Prim.Native.Nat.{ℕ}
 use mathlib.Core.Path.{_≡_, refl}
 use mathlib.Core.List.{List, [], _∷_, map}
@@ -21,8 +21,8 @@ pub record Case : Type 0 where
   pub size : ℕ
   pub text : List ℕ
 
-abbrev case : Trees → ℕ → ℕ → List ℕ → Case
-case xs w n o = record { trees = xs; width = w; size = n; text = o }
+abbrev layout : Trees → ℕ → ℕ → List ℕ → Case
+layout xs w n o = record { trees = xs; width = w; size = n; text = o }
 
 abbrev empty : Tree
 empty = list none
@@ -32,8 +32,8 @@ abbrev a-b : Tree
 a-b = list (more (symbol (97 ∷ [])) (more (symbol (98 ∷ [])) none))
 
 -- `(rule (a b) c)`
-abbrev pub rule : Tree
-rule = list (more (symbol (114 ∷ 117 ∷ 108 ∷ 101 ∷ [])) (more a-b (more (symbol (99 ∷ [])) none)))
+abbrev pub ruleTree : Tree
+ruleTree = list (more (symbol (114 ∷ 117 ∷ 108 ∷ 101 ∷ [])) (more a-b (more (symbol (99 ∷ [])) none)))
 
 -- `(()()()(a b))`
 abbrev empties : Tree
@@ -43,36 +43,36 @@ empties = list (more empty (more empty (more empty (more a-b none))))
 abbrev bound : Tree
 bound = list (more empty (more empty (more empty (more (binding (120 ∷ []) (list (more (symbol (97 ∷ [])) none))) none))))
 
-unfoldable pub cases : List Case
-cases =
+unfoldable pub layouts : List Case
+layouts =
     -- at 14 `(rule (a b) c)`; at 13 `(rule`, `    (a b)`, `    c`, `)`
-    case (more rule none) 14 15 (40 ∷ 114 ∷ 117 ∷ 108 ∷ 101 ∷ 32 ∷ 40 ∷ 97 ∷ 32 ∷ 98 ∷ 41 ∷ 32 ∷ 99 ∷ 41 ∷ 10 ∷ [])
-    ∷ case (more rule none) 13 24 (40 ∷ 114 ∷ 117 ∷ 108 ∷ 101 ∷ 10 ∷ 32 ∷ 32 ∷ 32 ∷ 32 ∷ 40 ∷ 97 ∷ 32 ∷ 98 ∷ 41 ∷ 10 ∷ 32 ∷ 32 ∷ 32 ∷ 32 ∷ 99 ∷ 10 ∷ 41 ∷ 10 ∷ [])
+    layout (more ruleTree none) 14 15 (40 ∷ 114 ∷ 117 ∷ 108 ∷ 101 ∷ 32 ∷ 40 ∷ 97 ∷ 32 ∷ 98 ∷ 41 ∷ 32 ∷ 99 ∷ 41 ∷ 10 ∷ [])
+    ∷ layout (more ruleTree none) 13 24 (40 ∷ 114 ∷ 117 ∷ 108 ∷ 101 ∷ 10 ∷ 32 ∷ 32 ∷ 32 ∷ 32 ∷ 40 ∷ 97 ∷ 32 ∷ 98 ∷ 41 ∷ 10 ∷ 32 ∷ 32 ∷ 32 ∷ 32 ∷ 99 ∷ 10 ∷ 41 ∷ 10 ∷ [])
     -- `()`, which does not fit and stays on its line
-    ∷ case (more empty none) 0 3 (40 ∷ 41 ∷ 10 ∷ [])
+    ∷ layout (more empty none) 0 3 (40 ∷ 41 ∷ 10 ∷ [])
     -- `(() () () (a b))` costs 13 and fits; `(a b)` in it, at column 10, would not, and is not tested; nor is the tree of a binding
-    ∷ case (more empties none) 13 17 (40 ∷ 40 ∷ 41 ∷ 32 ∷ 40 ∷ 41 ∷ 32 ∷ 40 ∷ 41 ∷ 32 ∷ 40 ∷ 97 ∷ 32 ∷ 98 ∷ 41 ∷ 41 ∷ 10 ∷ [])
-    ∷ case (more bound none) 15 19 (40 ∷ 40 ∷ 41 ∷ 32 ∷ 40 ∷ 41 ∷ 32 ∷ 40 ∷ 41 ∷ 32 ∷ 120 ∷ 32 ∷ 64 ∷ 32 ∷ 40 ∷ 97 ∷ 41 ∷ 41 ∷ 10 ∷ [])
+    ∷ layout (more empties none) 13 17 (40 ∷ 40 ∷ 41 ∷ 32 ∷ 40 ∷ 41 ∷ 32 ∷ 40 ∷ 41 ∷ 32 ∷ 40 ∷ 97 ∷ 32 ∷ 98 ∷ 41 ∷ 41 ∷ 10 ∷ [])
+    ∷ layout (more bound none) 15 19 (40 ∷ 40 ∷ 41 ∷ 32 ∷ 40 ∷ 41 ∷ 32 ∷ 40 ∷ 41 ∷ 32 ∷ 120 ∷ 32 ∷ 64 ∷ 32 ∷ 40 ∷ 97 ∷ 41 ∷ 41 ∷ 10 ∷ [])
     -- at 12 each item but the first is on its own line: `(()`, `    ()`, `    ()`, `    (a b)`, `)`
-    ∷ case (more empties none) 12 30 (40 ∷ 40 ∷ 41 ∷ 10 ∷ 32 ∷ 32 ∷ 32 ∷ 32 ∷ 40 ∷ 41 ∷ 10 ∷ 32 ∷ 32 ∷ 32 ∷ 32 ∷ 40 ∷ 41 ∷ 10 ∷ 32 ∷ 32 ∷ 32 ∷ 32 ∷ 40 ∷ 97 ∷ 32 ∷ 98 ∷ 41 ∷ 10 ∷ 41 ∷ 10 ∷ [])
+    ∷ layout (more empties none) 12 30 (40 ∷ 40 ∷ 41 ∷ 10 ∷ 32 ∷ 32 ∷ 32 ∷ 32 ∷ 40 ∷ 41 ∷ 10 ∷ 32 ∷ 32 ∷ 32 ∷ 32 ∷ 40 ∷ 41 ∷ 10 ∷ 32 ∷ 32 ∷ 32 ∷ 32 ∷ 40 ∷ 97 ∷ 32 ∷ 98 ∷ 41 ∷ 10 ∷ 41 ∷ 10 ∷ [])
     -- nothing of an empty table; `16` and `-7`, with an empty line between
-    ∷ case none 100 0 []
-    ∷ case (more (integer (pos 16)) (more (integer (negsuc 6)) none)) 100 7 (49 ∷ 54 ∷ 10 ∷ 10 ∷ 45 ∷ 55 ∷ 10 ∷ [])
+    ∷ layout none 100 0 []
+    ∷ layout (more (integer (pos 16)) (more (integer (negsuc 6)) none)) 100 7 (49 ∷ 54 ∷ 10 ∷ 10 ∷ 45 ∷ 55 ∷ 10 ∷ [])
     ∷ []
 
-pub pages : map (λ (c : Case). page (c .trees) (c .width)) cases ≡ map (λ (c : Case). c .text) cases
-unfolding cases breakColumn fitsIn cost lay pageFrom integerText digits
+pub pages : map (λ (c : Case). page (c .trees) (c .width)) layouts ≡ map (λ (c : Case). c .text) layouts
+unfolding layouts breakColumn fitsIn cost lay pageFrom integerText digits
 pages = refl
 
-pub sizes : map (λ (c : Case). length (page (c .trees) (c .width))) cases ≡ map (λ (c : Case). c .size) cases
-unfolding cases breakColumn fitsIn cost lay pageFrom integerText digits
+pub sizes : map (λ (c : Case). length (page (c .trees) (c .width))) layouts ≡ map (λ (c : Case). c .size) layouts
+unfolding layouts breakColumn fitsIn cost lay pageFrom integerText digits
 sizes = refl
 
 -- the same of their tables: the answer of `print`, and a buffer of that size after it
-pub answers : map (λ (c : Case). printing (recordsOf (c .trees)) (c .width) (c .size)) cases ≡ map (λ (c : Case). ok (c .size)) cases
-unfolding cases breakColumn fitsIn cost lay pageFrom integerText digits printing tableOf treesAt treeAt itemsAt recordAt headAt stepAt number isSymbol runsOn classOf records record-of le
+pub answers : map (λ (c : Case). printing (recordsOf (c .trees)) (c .width) (c .size)) layouts ≡ map (λ (c : Case). ok (c .size)) layouts
+unfolding layouts breakColumn fitsIn cost lay pageFrom integerText digits printing tableOf treesAt treeAt itemsAt recordAt headAt stepAt number isSymbol runsOn classOf records record-of le
 answers = refl
 
-pub buffers : map (λ (c : Case). printedInto (recordsOf (c .trees)) (c .width) (replicate (c .size) 0)) cases ≡ map (λ (c : Case). c .text) cases
-unfolding cases breakColumn fitsIn cost lay pageFrom integerText digits printedInto tableOf treesAt treeAt itemsAt recordAt headAt stepAt number isSymbol runsOn classOf records record-of le
+pub buffers : map (λ (c : Case). printedInto (recordsOf (c .trees)) (c .width) (replicate (c .size) 0)) layouts ≡ map (λ (c : Case). c .text) layouts
+unfolding layouts breakColumn fitsIn cost lay pageFrom integerText digits printedInto tableOf treesAt treeAt itemsAt recordAt headAt stepAt number isSymbol runsOn classOf records record-of le
 buffers = refl

@@ -50,9 +50,9 @@ unfolding feedOf
 feed-closed e = let r = ap (λ (f : Fed). f .reply) e in let z : _≡_ {A = ℕ} 0 1 = cc r in omega arith
 
 -- feeder::close: the held token is dropped; a closed state is refused
-close-token : Not (fed (ok finish) 0 (closed 1) ≡ closeOf (live (InSymbol 0) 1))
+close-drops : Not (fed (ok finish) 0 (closed 1) ≡ closeOf (live (InSymbol 0) 1))
 unfolding closeOf closing
-close-token e = let r = ap (λ (f : Fed). f .reply) e in let z : _≡_ {A = ℕ} 0 1 = cc r in omega arith
+close-drops e = let r = ap (λ (f : Fed). f .reply) e in let z : _≡_ {A = ℕ} 0 1 = cc r in omega arith
 
 close-again : Not (fed (refused 19 5) 0 (closed 5) ≡ closeOf (closed 5))
 unfolding closeOf

@@ -20,7 +20,7 @@ use Rattle.printer.specs.Layout.{breakColumn, fitsIn, cost, lay, pageFrom}
 use Rattle.printer.specs.Printing.{printedInto}
 use Rattle.demands.specs.Driver.{driveBy}
 use Rattle.demands.specs.WrongPrograms.{WrongPrograms}
-use Rattle.demands.proofs.Layouts.{rule}
+use Rattle.demands.proofs.Layouts.{ruleTree}
 
 no-token : (t : Token) → ok more ≡ ok (ready t) → ⊥
 no-token t e = let z : _≡_ {A = ℕ} 0 1 = cc in omega arith
@@ -38,11 +38,11 @@ wrong-programs = record {
   whole-piece = λ e. let z : _≡_ {A = ℕ} 2 1 = ap (λ (f : Fed). f .used) e in omega arith;
   whole-piece-cut = λ e. let z : _≡_ {A = ℕ} 0 1 = cc in omega arith;
   -- at width 13 the sixth byte of `(rule (a b) c)` is LF, on one line it is a space
-  one-line = λ f. let e : _≡_ {A = ℕ} 32 10 = ap (λ (l : List ℕ). getD l 5 0) (f (records rule) 13 (replicate 24 0)) in omega arith;
+  one-line = λ f. let e : _≡_ {A = ℕ} 32 10 = ap (λ (l : List ℕ). getD l 5 0) (f (records ruleTree) 13 (replicate 24 0)) in omega arith;
   -- the empty table leaves the buffer, and the table of `a` changes it
   same-bytes = λ o f. let e : _≡_ {A = ℕ} 0 97 = ap (λ (l : List ℕ). getD l 0 0) (sym (f [] 0 (0 ∷ 0 ∷ [])) ∙ f (records a) 0 (0 ∷ 0 ∷ [])) in omega arith;
   leaves-all = λ f. let e : _≡_ {A = ℕ} 0 97 = ap (λ (l : List ℕ). getD l 0 0) (f (records a) 0 (0 ∷ 0 ∷ [])) in omega arith;
-  one-line-text = λ f. let e : _≡_ {A = ℕ} 32 10 = ap (λ (l : List ℕ). getD l 5 0) (f (and rule none) 13) in omega arith;
+  one-line-text = λ f. let e : _≡_ {A = ℕ} 32 10 = ap (λ (l : List ℕ). getD l 5 0) (f (and ruleTree none) 13) in omega arith;
   -- no bytes are the text both of no tree and of one
   same-text = λ o f. let e : _≡_ {A = ℕ} 0 2 = ap length (sym (f none 0) ∙ f (and a none) 0) in omega arith;
 }

@@ -15,13 +15,13 @@ abbrev pub all : (ℕ → Bool) → ℕ → ℕ → Bool
 all f zero i = true
 all f (suc n) i = f i && all f n (suc i)
 
-from : (f : ℕ → Bool) (n i k : ℕ) → all f n i ≡ true → k < n → f (i + k) ≡ true
-from f zero i k e h = absurd (not-suc-le-zero h)
-from f (suc n) i zero e h = ap f (add-zero i) ∙ and-left (f i) (all f n (suc i)) e
-from f (suc n) i (suc k) e h = ap f (add-suc i k ∙ sym (suc-add i k)) ∙ from f n (suc i) k (and-right (f i) (all f n (suc i)) e) (le-of-suc-le-suc h)
+all-from : (f : ℕ → Bool) (n i k : ℕ) → all f n i ≡ true → k < n → f (i + k) ≡ true
+all-from f zero i k e h = absurd (not-suc-le-zero h)
+all-from f (suc n) i zero e h = ap f (add-zero i) ∙ and-left (f i) (all f n (suc i)) e
+all-from f (suc n) i (suc k) e h = ap f (add-suc i k ∙ sym (suc-add i k)) ∙ all-from f n (suc i) k (and-right (f i) (all f n (suc i)) e) (le-of-suc-le-suc h)
 
 pub each : (f : ℕ → Bool) → all f 256 0 ≡ true → (b : ℕ) → b < 256 → f b ≡ true
-each f e b h = sym (ap f (zero-add b)) ∙ from f 256 0 b e h
+each f e b h = sym (ap f (zero-add b)) ∙ all-from f 256 0 b e h
 
 pub same-eq : (a b : Bool) → same a b ≡ true → a ≡ b
 same-eq true true e = refl

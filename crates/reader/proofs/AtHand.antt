@@ -33,7 +33,7 @@ use Rattle.reader.specs.PrivateWalk.{Lexes, due, TreeTold, ItemsTold, Le
 use Rattle.reader.specs.declared.parts.Stop.{Stop}
 use Rattle.reader.specs.declared.parts.Stop.the-variants as stop
 use Rattle.reader.proofs.Derivation.{ManyIs, items-is}
-use Rattle.reader.proofs.Bounds.{place, SpansAll, spans-all, onward, past-top, weigh-top}
+use Rattle.reader.proofs.Bounds.{place, SpansAll, spans-all, after-lies, past-top, weigh-top}
 use Rattle.reader.proofs.Begins.{read-end, read-refused, read-rparen, read-at, read-int, read-list, read-deep}
 
 -- ---- the token
@@ -120,7 +120,7 @@ module _ (s : List ℕ) (d : ℕ) (x : Lexed) where
         pub items-on : (place (length s) (answerOf x) < place (length s) (nextToken s (p + 1))) × (place (length s) (nextToken s (p + 1)) ≤ length s)
         items-on =
             let h : Lexes s (ok (is (tokenOf code.LParen p))) = subst (Lexes s) (hand x c p code.LParen e f) l in
-            let o = onward s (tokenOf code.LParen p) h in
+            let o = after-lies s (tokenOf code.LParen p) h in
             let q : place (length s) (answerOf x) ≡ p = ap (place (length s)) (hand x c p code.LParen e f) in
             (omega (arith, o .to), o .top)
 

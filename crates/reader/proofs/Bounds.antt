@@ -72,8 +72,8 @@ pub record Onward (s : List ℕ) (t : Token) (a : Answer) : Type 0 where
 pub next-of : (s : List ℕ) (t : Token) → Lexes s (after s t)
 next-of s t = record { place = past t; gives = refl }
 
-pub onward : (s : List ℕ) (t : Token) → Lexes s (ok (is t)) → Onward s t (after s t)
-onward s t h = by (after s t) refl
+pub after-lies : (s : List ℕ) (t : Token) → Lexes s (ok (is t)) → Onward s t (after s t)
+after-lies s t h = by (after s t) refl
   where
     lies : Lies s (h .place) t
     lies = within s (h .place) t (h .gives)
@@ -136,7 +136,7 @@ pub record SpansAll (s : List ℕ) (a b : Answer) (k n : ℕ) : Type 0 where
 symbol-spans : (s : List ℕ) (t : Token) → Lexes s (ok (is t)) → Spans s (ok (is t)) (after s t) (length (records (symbolTree (nameOf s t))))
 unfolding records
 symbol-spans s t h =
-    let o = onward s t h in
+    let o = after-lies s t h in
     let n : length (record-of symbolKind (nameOf s t)) ≡ t .size + headLen = length-record symbolKind (nameOf s t) ∙ ap (λ (k : ℕ). k + headLen) (name-length s t (omega (arith, o .to, o .top))) in
     record {
       lexes = next-of s t;
@@ -149,7 +149,7 @@ symbol-spans s t h =
 integer-spans : (s : List ℕ) (t : Token) (z : ℤ) → t .kind ≡ int z → Lexes s (ok (is t)) → Spans s (ok (is t)) (after s t) (length (records (integer z)))
 unfolding records
 integer-spans s t z k h =
-    let o = onward s t h in
+    let o = after-lies s t h in
     let one : owed (t .kind) ≡ 1 = ap owed k in
     let n : length (record-of integerKind (wideBytes z)) ≡ integerLen = length-record integerKind (wideBytes z) ∙ ap (λ (k : ℕ). k + headLen) (wide-length z) in
     record {
@@ -170,14 +170,14 @@ at-past (int i) p q e = let z : _≡_ {A = ℕ} 0 1 = cc in absurd (omega arith)
 -- a name, and the `@` behind it up to the place q
 pub name-spans : (s : List ℕ) (t : Token) (q : ℕ) → Lexes s (ok (is t)) → signOf (after s t) ≡ At q
     → Spans s (ok (is t)) (nextToken s q) (length (record-of bindingKind (nameOf s t)))
-name-spans s t q h e = by (after s t) (onward s t h) (next-of s t) e
+name-spans s t q h e = by (after s t) (after-lies s t h) (next-of s t) e
   where
     by : (a : Answer) → Onward s t a → Lexes s a → signOf a ≡ At q → Spans s (ok (is t)) (nextToken s q) (length (record-of bindingKind (nameOf s t)))
     by (ok end) o l e = let z : _≡_ {A = ℕ} 0 1 = cc in absurd (omega arith)
     by (refused n p) o l e = let z : _≡_ {A = ℕ} 0 1 = cc in absurd (omega arith)
     by (ok (is u)) o l e =
         let qe : past u ≡ q = at-past (u .kind) (past u) q e in
-        let w = onward s u l in
+        let w = after-lies s u l in
         let m : length (record-of bindingKind (nameOf s t)) ≡ t .size + headLen =
         length-record bindingKind (nameOf s t) ∙ ap (λ (k : ℕ). k + headLen) (name-length s t (omega (arith, o .to, o .top))) in
         subst (λ (p : ℕ). Spans s (ok (is t)) (nextToken s p) (length (record-of bindingKind (nameOf s t)))) qe
@@ -202,8 +202,8 @@ list-spans : (s : List ℕ) (t u : Token) (xs : Trees) → Lexes s (ok (is t)) �
     → Spans s (ok (is t)) (after s u) (length (records (list xs)))
 unfolding records
 list-spans s t u xs h w =
-    let o = onward s t h in
-    let q = onward s u (w .lexes) in
+    let o = after-lies s t h in
+    let q = after-lies s u (w .lexes) in
     let m : length (record-of listKind (le 4 (count xs))) ≡ listLen = length-record listKind (le 4 (count xs)) ∙ ap (λ (k : ℕ). k + headLen) (le-length 4 (count xs)) in
     let n : length (record-of listKind (le 4 (count xs)) ++ recordsOf xs) ≡ listLen + length (recordsOf xs) =
     length-append (record-of listKind (le 4 (count xs))) (recordsOf xs) ∙ ap (λ (k : ℕ). k + length (recordsOf xs)) m in

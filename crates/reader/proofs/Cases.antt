@@ -34,14 +34,14 @@ not-read s n a = case s 30 (refused n a) (replicate 30 0)
 abbrev run : Case → Answered
 run c = record { answer = reading (c .source) (c .size); room = readInto (c .source) (replicate (c .size) 0) }
 
-abbrev bound : List ℕ
-bound = 7 ∷ 0 ∷ 0 ∷ 0 ∷ 3 ∷ 0 ∷ 120 ∷ 10 ∷ 0 ∷ 0 ∷ 0 ∷ 4 ∷ 0 ∷ 1 ∷ 0 ∷ 0 ∷ 0 ∷ 7 ∷ 0 ∷ 0 ∷ 0 ∷ 1 ∷ 0 ∷ 97 ∷ []
+abbrev boundTable : List ℕ
+boundTable = 7 ∷ 0 ∷ 0 ∷ 0 ∷ 3 ∷ 0 ∷ 120 ∷ 10 ∷ 0 ∷ 0 ∷ 0 ∷ 4 ∷ 0 ∷ 1 ∷ 0 ∷ 0 ∷ 0 ∷ 7 ∷ 0 ∷ 0 ∷ 0 ∷ 1 ∷ 0 ∷ 97 ∷ []
 
 unfoldable pub cases : List Case
 cases =
     -- `x @ (a)` into rooms of 30, 24 and 23 bytes
-    case (120 ∷ 32 ∷ 64 ∷ 32 ∷ 40 ∷ 97 ∷ 41 ∷ []) 30 (ok 24) (bound ++ replicate 6 0)
-    ∷ case (120 ∷ 32 ∷ 64 ∷ 32 ∷ 40 ∷ 97 ∷ 41 ∷ []) 24 (ok 24) bound
+    case (120 ∷ 32 ∷ 64 ∷ 32 ∷ 40 ∷ 97 ∷ 41 ∷ []) 30 (ok 24) (boundTable ++ replicate 6 0)
+    ∷ case (120 ∷ 32 ∷ 64 ∷ 32 ∷ 40 ∷ 97 ∷ 41 ∷ []) 24 (ok 24) boundTable
     ∷ case (120 ∷ 32 ∷ 64 ∷ 32 ∷ 40 ∷ 97 ∷ 41 ∷ []) 23 (refused 14 24) (replicate 23 0)
     -- the empty source, `a @ b @ c`, `x (;;) @ y`
     ∷ case [] 0 (ok 0) []

@@ -15,7 +15,7 @@ use Rattle.reader.specs.Promised.{ReadTokens}
 use Rattle.reader.specs.Grammar.{after}
 use Rattle.reader.specs.PrivateWalk.{Lexes}
 use Rattle.reader.proofs.Derivation.{Derives, DerivesAll}
-use Rattle.reader.proofs.Bounds.{place, onward as goes-on, next-of, spans, spans-all}
+use Rattle.reader.proofs.Bounds.{place, after-lies as goes-on, next-of, spans, spans-all}
 use Rattle.reader.proofs.ReadGood.{first-of, file-derived}
 
 -- what the token at hand and those after it say, by at most n more calls
