@@ -1,4 +1,4 @@
--- The first byte of a symbol and of a literal, by its class. Assumes nothing.
+-- A class by a question that it alone answers yes, and the first byte of a literal. Assumes nothing.
 use Prim.Native.Nat.{ℕ, _-_, _≤_}
 use mathlib.Core.Path.{_≡_, refl, sym}
 use mathlib.Core.Bool.{Bool, true, false, _&&_, _||_}
@@ -6,24 +6,27 @@ use native.Mathlib.Omega.{arith}
 use lib.Dec.{eqb, leb}
 use borrow.Author.Tests.{leb-true, le-leb, ne-eqb}
 use Rattle.lists.proofs.Choice.{pick, at-least, and-right, or-right, true-false}
-use Rattle.classes.specs.Classes.{Class, Space, LineEnd, Semicolon, LParen, RParen, AtSign, FormFeed, Minus, Digit, Other, classOf, symbolFirst, digitOf, literalByte}
+use Rattle.classes.specs.Classes.{Class, Space, LineEnd, Semicolon, LParen, RParen, AtSign, FormFeed, Minus, Digit, Other, classOf, space, lineEnd, decimal, symbolFirst, digitOf, literalByte}
+
+-- what a question that one class alone answers yes tells of a class
+no : {P : Type 0} → false ≡ true → P
+no e = true-false (sym e)
+
+pub space-is : (c : Class) → space c ≡ true → c ≡ Space
+space-is c =
+    elim c [ Space ↦ λ _. refl | LineEnd ↦ no | Semicolon ↦ no | LParen ↦ no | RParen ↦ no | AtSign ↦ no | FormFeed ↦ no | Minus ↦ no | Digit ↦ no | Other ↦ no ]
+
+pub line-end-is : (c : Class) → lineEnd c ≡ true → c ≡ LineEnd
+line-end-is c =
+    elim c [ Space ↦ no | LineEnd ↦ λ _. refl | Semicolon ↦ no | LParen ↦ no | RParen ↦ no | AtSign ↦ no | FormFeed ↦ no | Minus ↦ no | Digit ↦ no | Other ↦ no ]
+
+pub decimal-is : (c : Class) → decimal c ≡ true → c ≡ Digit
+decimal-is c =
+    elim c [ Space ↦ no | LineEnd ↦ no | Semicolon ↦ no | LParen ↦ no | RParen ↦ no | AtSign ↦ no | FormFeed ↦ no | Minus ↦ no | Digit ↦ λ _. refl | Other ↦ no ]
 
 pub first-other : (c : Class) → symbolFirst c ≡ true → c ≡ Other
-first-other Space e = true-false (sym e)
-first-other LineEnd e = true-false (sym e)
-first-other Semicolon e = true-false (sym e)
-first-other LParen e = true-false (sym e)
-first-other RParen e = true-false (sym e)
-first-other AtSign e = true-false (sym e)
-first-other FormFeed e = true-false (sym e)
-first-other Minus e = true-false (sym e)
-first-other Digit e = true-false (sym e)
-first-other Other e = refl
-
--- one of two tests holds: what follows from either
-pub either : {P : Type 0} (a b : Bool) → (a || b) ≡ true → (a ≡ true → P) → (b ≡ true → P) → P
-either true b e f g = f refl
-either false b e f g = g e
+first-other c =
+    elim c [ Space ↦ no | LineEnd ↦ no | Semicolon ↦ no | LParen ↦ no | RParen ↦ no | AtSign ↦ no | FormFeed ↦ no | Minus ↦ no | Digit ↦ no | Other ↦ λ _. refl ]
 
 decimal-literal : (b : ℕ) → (leb 48 b && leb b 57) ≡ true → literalByte b ≡ true
 unfolding literalByte digitOf
@@ -31,25 +34,6 @@ decimal-literal b e =
     let h : b ≤ 57 = leb-true b 57 (and-right (leb 48 b) (leb b 57) e) in
     let k : leb (b - 48) 15 ≡ true = le-leb (b - 48) 15 (omega arith) in
     rw (e, k) (or-right (eqb b 95))
-
-pub digit-class : (b : ℕ) → (leb 48 b && leb b 57) ≡ true → classOf b ≡ Digit
-unfolding classOf
-digit-class b e =
-    let h : 48 ≤ b = at-least 48 57 b e in
-    let k : b ≤ 57 = leb-true b 57 (and-right (leb 48 b) (leb b 57) e) in
-    rw (
-      ne-eqb b 32 (λ x. omega arith),
-      ne-eqb b 9 (λ x. omega arith),
-      ne-eqb b 10 (λ x. omega arith),
-      ne-eqb b 13 (λ x. omega arith),
-      ne-eqb b 59 (λ x. omega arith),
-      ne-eqb b 40 (λ x. omega arith),
-      ne-eqb b 41 (λ x. omega arith),
-      ne-eqb b 64 (λ x. omega arith),
-      ne-eqb b 12 (λ x. omega arith),
-      ne-eqb b 45 (λ x. omega arith),
-      e,
-    ) refl
 
 pub digit-literal : (b : ℕ) → classOf b ≡ Digit → literalByte b ≡ true
 unfolding classOf

@@ -31,6 +31,10 @@ asked Minus a b c d e f g h i j = h
 asked Digit a b c d e f g h i j = i
 asked Other a b c d e f g h i j = j
 
+-- space and tab
+abbrev pub space : Class → Bool
+space c = asked c true false false false false false false false false false
+
 -- space, tab, LF, CR
 abbrev pub blank : Class → Bool
 blank c = asked c true true false false false false false false false false
@@ -48,6 +52,10 @@ lparen c = asked c false false false true false false false false false false
 
 abbrev pub rparen : Class → Bool
 rparen c = asked c false false false false true false false false false false
+
+-- `0-9`
+abbrev pub decimal : Class → Bool
+decimal c = asked c false false false false false false false false true false
 
 -- a symbol begins with any byte but `-`, a digit, `(`, `)`, `;`, `@`, a blank or form feed
 abbrev pub symbolFirst : Class → Bool

@@ -1,7 +1,7 @@
 // What a byte is: one class for each byte, and the tests that loops over runs of bytes ask. A test that a loop asks of every byte answers
 // first for the bytes that sources have most of.
 ghost use mathlib.Core.Path.{_≡_};
-ghost use Rattle.classes.specs.Classes.{classOf, blank, lineEnd, symbolFirst, symbolOther, digitOf, literalByte};
+ghost use Rattle.classes.specs.Classes.{classOf, space, blank, lineEnd, decimal, symbolFirst, symbolOther, digitOf, literalByte};
 
 pub enum Class {
     Space,
@@ -19,10 +19,10 @@ pub enum Class {
 pub fn class_of(b: u8) -> Class
     ensures { λ r. ⌜ r ≡ classOf b ⌝ }
 {
-    if (b == 32) | (b == 9) {
+    if is_space(b) {
         return Class::Space;
     }
-    if (b == 10) | (b == 13) {
+    if is_line_end(b) {
         return Class::LineEnd;
     }
     if b == 59 {
@@ -43,10 +43,22 @@ pub fn class_of(b: u8) -> Class
     if b == 45 {
         return Class::Minus;
     }
-    if (48 <= b) & (b <= 57) {
+    if is_decimal(b) {
         return Class::Digit;
     }
     Class::Other
+}
+
+fn is_space(b: u8) -> bool
+    ensures { λ r. ⌜ r ≡ space (classOf b) ⌝ }
+{
+    (b == 9) | (b == 32)
+}
+
+fn is_decimal(b: u8) -> bool
+    ensures { λ r. ⌜ r ≡ decimal (classOf b) ⌝ }
+{
+    (48 <= b) & (b <= 57)
 }
 
 pub fn is_blank(b: u8) -> bool

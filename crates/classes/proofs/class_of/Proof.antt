@@ -1,67 +1,94 @@
--- `classes::class_of`: a byte that a test names has its class by computation, whatever was tested before; a digit by its range; and a byte that every test passes over is no other.
-use Prim.Native.Nat.{ℕ}
-use mathlib.Core.Path.{refl, sym}
+-- `classes::class_of`: each test tells the class, in whatever form the code asks it; and a byte that all of them pass over begins a symbol, by one computed test
+-- over every byte.
+use Prim.Native.Nat.{ℕ, _<_}
+use mathlib.Core.Path.{_≡_, refl, sym, _∙_}
+use mathlib.Core.Bool.{Bool, true, false, _||_}
+use native.Mathlib.Omega.{arith}
 use lib.Dec.{eqb}
-use borrow.Author.Tests.{eqb-true, ne-eqb}
-use Rattle.classes.proofs.Firsts.{either, digit-class}
-use Rattle.classes.specs.Classes.{classOf}
+use borrow.Author.Needs.{needs}
+use borrow.Author.Tests.{ne-eqb}
+use Rattle.lists.proofs.Each.{each}
+use Rattle.classes.proofs.Firsts.{space-is, line-end-is, decimal-is, first-other}
+use Rattle.classes.specs.Classes.{Class, Semicolon, LParen, RParen, AtSign, FormFeed, Minus, classOf, space, lineEnd, decimal, symbolFirst}
 use Rattle.classes.proofs.class_of.Statement.{statement}
 use Rattle.classes.proofs.class_of.Tie as tie
 
-returns : tie.Need-returns
+-- a byte by its number: the class is computed
+is : (b n : ℕ) → b ≡ n → {c : Class} → c ≡ classOf n → c ≡ classOf b
+is b n e k = rw e k
+
+-- a test of `class_of` is met, or the byte begins a symbol
+abbrev met : ℕ → Bool
+met b =
+    space (classOf b) || lineEnd (classOf b) || eqb b 59 || eqb b 40 || eqb b 41 || eqb b 64 || eqb b 12 || eqb b 45 || decimal (classOf b) || symbolFirst (classOf b)
+
+met-all : (b : ℕ) → b < 256 → met b ≡ true
 unfolding classOf
-returns c =
-    let b : ℕ = c .before .args .b in
-    either (eqb b 32) (eqb b 9) (c .if1 .taken) (λ e. rw (eqb-true b 32 e) refl) (λ e. rw (eqb-true b 9 e) refl)
+met-all b h = each met refl b h
+
+is-space-requires : tie.Need-is-space-requires
+is-space-requires c κs = search needs
+
+returns : tie.Need-returns
+returns c = sym (space-is _ (sym (c .before .is-space .ensures) ∙ c .if1 .taken))
+
+is-line-end-requires : tie.Need-is-line-end-requires
+is-line-end-requires c κs = search needs
 
 returns-2 : tie.Need-returns-2
-unfolding classOf
-returns-2 c =
-    let b : ℕ = c .before .before .args .b in
-    either (eqb b 10) (eqb b 13) (c .if2 .taken) (λ e. rw (eqb-true b 10 e) refl) (λ e. rw (eqb-true b 13 e) refl)
+returns-2 c = sym (line-end-is _ (sym (c .before .is-line-end .ensures) ∙ c .if2 .taken))
 
 returns-3 : tie.Need-returns-3
 unfolding classOf
-returns-3 c = rw (c .if3 .taken) refl
+returns-3 c = is (c .before .before .before .before .before .args .b) 59 (omega (arith, c .if3 .taken)) refl
 
 returns-4 : tie.Need-returns-4
 unfolding classOf
-returns-4 c = rw (c .if4 .taken) refl
+returns-4 c = is (c .before .before .before .before .before .before .args .b) 40 (omega (arith, c .if4 .taken)) refl
 
 returns-5 : tie.Need-returns-5
 unfolding classOf
-returns-5 c = rw (c .if5 .taken) refl
+returns-5 c = is (c .before .before .before .before .before .before .before .args .b) 41 (omega (arith, c .if5 .taken)) refl
 
 returns-6 : tie.Need-returns-6
 unfolding classOf
-returns-6 c = rw (c .if6 .taken) refl
+returns-6 c = is (c .before .before .before .before .before .before .before .before .args .b) 64 (omega (arith, c .if6 .taken)) refl
 
 returns-7 : tie.Need-returns-7
 unfolding classOf
-returns-7 c = rw (c .if7 .taken) refl
+returns-7 c = is (c .before .before .before .before .before .before .before .before .before .args .b) 12 (omega (arith, c .if7 .taken)) refl
 
 returns-8 : tie.Need-returns-8
 unfolding classOf
-returns-8 c = rw (c .if8 .taken) refl
+returns-8 c = is (c .before .before .before .before .before .before .before .before .before .before .args .b) 45 (omega (arith, c .if8 .taken)) refl
+
+is-decimal-requires : tie.Need-is-decimal-requires
+is-decimal-requires c κs = search needs
 
 returns-9 : tie.Need-returns-9
-returns-9 c = sym (digit-class _ (c .if9 .taken))
+returns-9 c = sym (decimal-is _ (sym (c .before .is-decimal .ensures) ∙ c .if9 .taken))
 
 returns-10 : tie.Need-returns-10
-unfolding classOf
 returns-10 c =
-    let a = c .before .before .before .before in
+    let d = c .before .before in
+    let l = d .before .before .before .before .before .before in
+    let b : ℕ = l .before .before .before .before .args .b in
+    let none : met b ≡ symbolFirst (classOf b) =
     simp (
-      a .before .before .before .before .if1 .left,
-      a .before .before .before .if2 .left,
-      ne-eqb _ _ (a .before .before .if3 .left),
-      ne-eqb _ _ (a .before .if4 .left),
-      ne-eqb _ _ (a .if5 .left),
-      ne-eqb _ _ (c .before .before .before .if6 .left),
-      ne-eqb _ _ (c .before .before .if7 .left),
-      ne-eqb _ _ (c .before .if8 .left),
-      c .if9 .left,
+      sym (l .before .before .before .is-space .ensures) ∙ l .before .before .if1 .left,
+      sym (l .before .is-line-end .ensures) ∙ l .if2 .left,
+      ne-eqb b 59 (λ e. d .before .before .before .before .before .if3 .left (omega (arith, e))),
+      ne-eqb b 40 (λ e. d .before .before .before .before .if4 .left (omega (arith, e))),
+      ne-eqb b 41 (λ e. d .before .before .before .if5 .left (omega (arith, e))),
+      ne-eqb b 64 (λ e. d .before .before .if6 .left (omega (arith, e))),
+      ne-eqb b 12 (λ e. d .before .if7 .left (omega (arith, e))),
+      ne-eqb b 45 (λ e. d .if8 .left (omega (arith, e))),
+      sym (c .before .is-decimal .ensures) ∙ c .if9 .left,
     )
+    in
+    sym (first-other (classOf b) (sym none ∙ met-all b (search needs)))
 
 pub class-of-spec : {M : Type 1} → statement M
-class-of-spec = tie.close (tie.spec returns returns-2 returns-3 returns-4 returns-5 returns-6 returns-7 returns-8 returns-9 returns-10)
+class-of-spec =
+    tie.close
+    (tie.spec is-space-requires returns is-line-end-requires returns-2 returns-3 returns-4 returns-5 returns-6 returns-7 returns-8 is-decimal-requires returns-9 returns-10)
