@@ -107,10 +107,10 @@ module _ (q : List ℕ) (j stop : ℕ) (h : j < stop) (w : stop ≤ length q) (k
   )
 
   -- `(` before a byte that is no `;`
-  pub paren-shown : getD q j 0 ≡ 40 → j + 1 < stop → getD q (j + 1) 0 < 256 → eqb (getD q (j + 1) 0) 59 ≡ false → Shown q stop (record { start = j; end = j + 1 })
+  pub paren-shown : getD q j 0 ≡ 40 → j + 1 < stop → getD q (j + 1) 0 < 256 → (getD q (j + 1) 0 ≡ 59 → ⊥) → Shown q stop (record { start = j; end = j + 1 })
   unfolding turn
   paren-shown e n f s z =
-      let d : semicolon (classOf (getD q (j + 1) 0)) ≡ false = sym (is-semicolon (getD q (j + 1) 0) f) ∙ s in (
+      let d : semicolon (classOf (getD q (j + 1) 0)) ≡ false = sym (is-semicolon (getD q (j + 1) 0) f) ∙ ne-eqb _ _ s in (
         omega arith,
         omega arith,
         λ (p : ℕ) (l : p + stop ≤ sourceLimit).

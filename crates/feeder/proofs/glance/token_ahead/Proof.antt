@@ -2,7 +2,6 @@
 use Prim.Native.Nat.{ℕ, _+_, _-_, _≤_}
 use mathlib.Core.Path.{_≡_, refl, sym, _∙_}
 use native.Mathlib.Omega.{arith}
-use borrow.Author.Tests.{ne-eqb}
 use denote.Ref.{now}
 use Rattle.refusals.specs.Numbers.{sourceLimit}
 use Rattle.feeder.specs.Machine.{Blank}
@@ -78,7 +77,7 @@ returns-4 c =
     let t = c .before .before .before .before .before .before .before .before .before .before in
     let a = t .before .before .args in
     paren-shown (now (a .piece)) (t .loop .j) (a .stop) (omega arith) (omega arith) (t .loop .inv .1)
-    (c .before .before .before .if4 .taken) (c .before .before .if5 .taken) ((c .before .shared-slice-known3 .given (t .loop .j + 1)) .fits) (ne-eqb _ _ (c .if6 .left))
+    (c .before .before .before .if4 .taken) (omega (arith, c .before .before .if5 .taken)) ((c .before .shared-slice-known3 .given (t .loop .j + 1)) .fits) (λ e. omega (arith, c .if6 .left))
 
 returns-5 : tie.Need-returns-5 Inv-loop μ-loop
 returns-5 c = none-shown _ _
