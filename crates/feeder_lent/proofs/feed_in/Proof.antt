@@ -1,7 +1,7 @@
 -- `feeder_lent::feed_in` meets its contract: a walk of its MIR, by hand. The borrow of the state is opened, the state is copied and passed to `feed` with the piece, the state that `feed` returned is stored, and the borrow is closed at it.
 -- All that the proof knows of `feed` is that it meets its contract.
 -- Assumes nothing.
-use mathlib.Core.Path.{_≡_, refl}
+use mathlib.Core.Path.{_≡_, refl, sym}
 use Prim.Native.Nat.{ℕ}
 use mathlib.Core.List.{[], _∷_, List}
 use lib.ListN.{length}
@@ -106,7 +106,8 @@ module _ {M : Type 1} (𝓤 : URA M) (H : Heap 𝓤) (A : Atoms 𝓤) (W : Given
     exits =
         qed W (‵ (fobs γ (S.the-row .coded .code (r .state))) ∷ ‵ (fbor κ (Body (mem S.the-row) b o γ)) ∷ ‵ (flft κ q) ∷ (‵ (flft κ′ q′) ⊛ ‵ ftrue) ∷ ‵ Own ∷ []) ∵
         suffices ! _ (ends-at 𝓤 H A f.ended stayed (f.clauses 𝓤 H A at-mem run) W (((κ, (κ′, tt)), (q, (q′, tt)), tt, x, at), tt) (LL.val O.the-type O′.the-laws (r .out)) (r .out) (r .state, (tt, tt)) (tt, (tt, tt))) $
-        says ! e $
+        -- the clause, whichever way round it is written
+        says ! (search (e, sym e)) $
         move ! (2 ∷ 3 ∷ []) $ join ! $ frame ! $ feqI ! (List Val) (vptr b o ∷ []) (vptr b o ∷ []) refl $ fjoin3 ! $
         nothing ! $ move ! (2 ∷ 0 ∷ []) $ fjoin ! $ move ! (1 ∷ 0 ∷ []) $ fjoin ! $
         owned ! O.the-row (Is O.the-row) (LL.makes O.the-type O′.the-plain 𝓤 H A) (r .out) _ is-out $ move ! (1 ∷ 0 ∷ []) $ done !

@@ -1,6 +1,6 @@
 -- `feeder_lent::feed_through` meets its contract: a walk of its MIR, by hand. The local is lent for a lifetime that is made for the call of `feed_in`, and is taken back at the last value that `feed_in` ensures.
 -- Assumes nothing.
-use mathlib.Core.Path.{_≡_, refl, subst}
+use mathlib.Core.Path.{_≡_, refl, sym, subst}
 use Prim.Native.Nat.{ℕ}
 use mathlib.Core.List.{[], _∷_, List}
 use lib.ListN.{length}
@@ -123,7 +123,8 @@ module _ {M : Type 1} (𝓤 : URA M) (H : Heap 𝓤) (A : Atoms 𝓤) (W : Given
   exits r t e is-h is-f =
       qed W ((‵ (flft κ q) ⊛ ‵ ftrue) ∷ ‵ Own ∷ []) ∵
       suffices ! _ (ends-at 𝓤 H A f.ended stayed (f.clauses 𝓤 H A at-mem run) W (((κ, tt), (q, tt), tt, x, at), tt) (LL.val F.the-type F′.the-laws (made r t)) (made r t) (tt, (tt, tt)) (tt, (tt, tt))) $
-      says ! e $ frame ! $ nothing ! $ move ! (1 ∷ 0 ∷ []) $ fjoin ! $ owned ! S.the-row (Is S.the-row) (LL.makes S.the-type S′.the-plain 𝓤 H A) h _ is-h $ fjoin ! $
+      -- the clause, whichever way round it is written
+      says ! (search (e, sym e)) $ frame ! $ nothing ! $ move ! (1 ∷ 0 ∷ []) $ fjoin ! $ owned ! S.the-row (Is S.the-row) (LL.makes S.the-type S′.the-plain 𝓤 H A) h _ is-h $ fjoin ! $
       owned ! F.the-row (Is F.the-row) (LL.makes F.the-type F′.the-plain 𝓤 H A) (made r t) _ is-f $ move ! (1 ∷ 0 ∷ []) $ done !
 
   module _ (C : Calls 𝓤 H) (Λ : Loops 𝓤 H) (fm : FmC 𝓤 H (W .laws) C) (known : Triple 𝓤 (C #g) (FeedIn 𝓤 H A at-mem run)) where
@@ -146,8 +147,8 @@ module _ {M : Type 1} (𝓤 : URA M) (H : Heap 𝓤) (A : Atoms 𝓤) (W : Given
         calls-at ! fm (FeedIn 𝓤 H A at-mem run) known (to α l₃ δ) (and-then ! (load ! (from ! (stop !)) (look ! 5 refl)) (and-then ! (load ! (from ! (stop !)) (look ! 10 refl)) (no-more !))) (λ v.
         use1 W (later (some (λ (r : Out). ((‵ (flft (α ∷ []) fullShare) ⊛ ‵ (flft κ q) ⊛ ‵ ftrue) ⊛ ‵ (O.the-row .own r (v ∷ []))) ⊛ raw (ensured 𝓤 H A g.ended (g.clauses 𝓤 H A at-mem run) (α ∷ [], (κ, tt)) (ref l₃ δ, (p, tt)) tt r)))) (id⊢ 𝓤 _) $ await ! tt $ pick ! (λ r.
         -- what `feed_in` ensures, at some last state
-        split ! $ move ! (1 ∷ []) $ use1 W (some (λ (ws : State × (Unit {0} × Unit {0})). ‵ (lasts g.ended (α ∷ [], (κ, tt)) (ref l₃ δ, (p, tt)) ws) ⊛ raw (fact 𝓤 (fedOf (made r (ws .0)) ≡ found)))) (id⊢ 𝓤 _) $ pick ! (λ ws.
-        split ! $ move ! (1 ∷ []) $ heard ! (fedOf (made r (ws .0)) ≡ found) (λ e. fsplit ! $
+        split ! $ move ! (1 ∷ []) $ use1 W (some (λ (ws : State × (Unit {0} × Unit {0})). ‵ (lasts g.ended (α ∷ [], (κ, tt)) (ref l₃ δ, (p, tt)) ws) ⊛ raw (fact 𝓤 _))) (id⊢ 𝓤 _) $ pick ! (λ ws.
+        split ! $ move ! (1 ∷ []) $ heard ! _ (λ e. fsplit ! $
         -- [the last value; true; the tokens and the result; the lender's part; what the piece owns; _6; …]
         move ! (2 ∷ []) $ split ! $ move ! (1 ∷ []) $ peeks ! O.the-row (Is O.the-row) (shows 𝓤 H A O.the-row) r (v ∷ []) (λ is-o.
         land ! (from ! (stop !)) (init ! 10 refl (LL.lawful O.the-type O′.the-laws 𝓤 H A W .typed r _ is-o .0)) $
@@ -162,7 +163,7 @@ module _ {M : Type 1} (𝓤 : URA M) (H : Heap 𝓤) (A : Atoms 𝓤) (W : Given
         assigns ! (agg ! (and-then ! (load ! (from ! (stop !)) (look ! 10 refl)) (and-then ! (load ! (from ! (stop !)) (look ! 6 refl)) (no-more !)))) (from ! (stop !)) (init ! 17 refl (LL.lawful F.the-type F′.the-laws 𝓤 H A W .typed (made r (ws .0)) _ (is-made r (ws .0) (spell-o r v is-o) (spell-s (ws .0) w is-s)) .0)) $
         returns ! (look ! 17 refl) $ forget ! 0 refl $ forget ! 6 refl $ forget ! 8 refl $ forget ! 10 refl $ forget ! 13 refl $ forget ! 15 refl $ forget ! 17 refl $
         move ! (17 ∷ 18 ∷ []) $ free1 ! $ move ! (15 ∷ 16 ∷ []) $ free1 ! $ move ! (13 ∷ 14 ∷ []) $ free1 ! $ move ! (0 ∷ 12 ∷ []) $ free1 ! $ move ! (9 ∷ 10 ∷ []) $ free1 ! $ move ! (7 ∷ 8 ∷ []) $ free1 ! $ move ! (5 ∷ 6 ∷ []) $ free1 ! $ free0 ! $
-        keep ! (1 ∷ 4 ∷ []) $ by ! (exits r (ws .0) e is-h (is-made r (ws .0) (spell-o r v is-o) (spell-s (ws .0) w is-s)))))))))))))))))))
+        keep ! (1 ∷ 4 ∷ []) $ by ! (exits r (ws .0) (search (e, sym e)) is-h (is-made r (ws .0) (spell-o r v is-o) (spell-s (ws .0) w is-s)))))))))))))))))))
 
 module _ {M : Type 1} (𝓤 : URA M) (H : Heap 𝓤) (A : Atoms 𝓤) (W : Given 𝓤 H A) (mem : Memory → SProp 𝓤) (run : Routine → Fun 𝓤) where
   f-walks : (C : Calls 𝓤 H) (Λ : Loops 𝓤 H) → FmC 𝓤 H (W .laws) C → Triple 𝓤 (C #g) (FeedIn 𝓤 H A mem run) → Walks 𝓤 H A f.ended stayed (WpFn 𝓤 H C Λ code.function) (f.clauses 𝓤 H A mem run)
