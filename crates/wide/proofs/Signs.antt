@@ -4,7 +4,7 @@ use mathlib.Core.Bool.{Bool, true, false}
 use mathlib.Core.Logic.{_⊎_, inl, inr, ⊎-elim}
 use Prim.Native.Nat.{ℕ, suc, _+_, _*_, _-_, _%_, _^_, _≤_, _<_}
 use native.Mathlib.Omega.{arith}
-use native.Mathlib.Nat.{add-mul, add-suc, suc-mul, mod-eq-of-lt, pos-of-ne-zero, lt-of-lt-of-le, le-add-left}
+use native.Mathlib.Nat.{add-mul, add-suc, suc-mul, mod-eq-of-lt, lt-of-lt-of-le, le-add-left}
 use lib.Arith.{digits-lt, le-zero}
 use lib.IntN.{ℤ, pos, negsuc, natAbs}
 use lib.Signed.{mag, ltZ}
@@ -87,9 +87,9 @@ wraps-zero : (x y : ℕ) → x < 2 ^ 64 → (x + y) % 2 ^ 64 ≡ 0 → y ≡ 0 �
 wraps-zero x y h e f = omega arith
 
 pub negated-law : (h l h' l' g b : ℕ) → h < 2 ^ 64 → l < 2 ^ 64 → h' < 2 ^ 64 → l' < 2 ^ 64 → g < 2 ^ 64 → (l' + l) % 2 ^ 64 ≡ 0 → (g + h) % 2 ^ 64 ≡ 0 → (h' + b) % 2 ^ 64 ≡ g
-    → ((l ≡ 0) × (b ≡ 0)) ⊎ ((l ≡ 0 → ⊥) × (b ≡ 1)) → h' * 2 ^ 64 + l' ≡ (2 ^ 128 - (h * 2 ^ 64 + l)) % 2 ^ 128
+    → ((l ≡ 0) × (b ≡ 0)) ⊎ ((0 < l) × (b ≡ 1)) → h' * 2 ^ 64 + l' ≡ (2 ^ 128 - (h * 2 ^ 64 + l)) % 2 ^ 128
 negated-law h l h' l' g b bh bl bh' bl' bg el eg eh (inr p) =
-    minus (2 ^ 128) (h' * 2 ^ 64 + l') (h * 2 ^ 64 + l) (whole (2 ^ 64) h' l' h l (wraps-one h' h b g bh' bh eh (p .1) eg) (wraps l' l bl' bl el (pos-of-ne-zero (p .0)))) (lt-of-lt-of-le (pos-of-ne-zero (p .0)) (le-add-left l (h * 2 ^ 64)))
+    minus (2 ^ 128) (h' * 2 ^ 64 + l') (h * 2 ^ 64 + l) (whole (2 ^ 64) h' l' h l (wraps-one h' h b g bh' bh eh (p .1) eg) (wraps l' l bl' bl el (p .0))) (lt-of-lt-of-le (p .0) (le-add-left l (h * 2 ^ 64)))
 negated-law h l h' l' g b bh bl bh' bl' bg el eg eh (inl p) = ⊎-elim none some (which 0 h)
   where
     zl : l' ≡ 0

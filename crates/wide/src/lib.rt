@@ -127,10 +127,8 @@ pub fn grow(n: Limbs, radix: u8, digit: u8) -> Grown
     let plus = digit as u64;
     if n.hi == 0 {
         if n.lo < 0x100_0000_0000_0000 {
-            return Grown::Fits(Limbs {
-                hi: 0,
-                lo: n.lo * by + plus,
-            });
+            let lo = n.lo * by + plus;
+            return Grown::Fits(Limbs { hi: 0, lo });
         }
     }
     let low = times(n.lo, by, plus);

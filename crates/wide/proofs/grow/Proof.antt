@@ -6,13 +6,13 @@ use borrow.Author.Needs.{needs}
 use Rattle.wide.proofs.grow.Statement.{statement}
 use Rattle.wide.proofs.grow.Tie as tie
 
-mul-t10 : tie.Need-mul-t10
-mul-t10 c =
+mul-lo : tie.Need-mul-lo
+mul-lo c =
     let a = c .before .before .before .before .before .args in
     omega (arith, short (a .n .lo) (a .radix) (a .digit) (c .before .if2 .taken) (omega arith) (omega arith))
 
-add-t11 : tie.Need-add-t11
-add-t11 c =
+add-lo : tie.Need-add-lo
+add-lo c =
     let a = c .before .before .before .before .before .args in
     omega (arith, short (a .n .lo) (a .radix) (a .digit) (c .before .if2 .taken) (omega arith) (omega arith))
 
@@ -50,4 +50,4 @@ returns-3 c =
 pub grow-spec : {M : Type 1} → statement M
 grow-spec =
     tie.close
-    (tie.spec mul-t10 add-t11 returns times-requires times-requires-2 returns-2 returns-3)
+    (tie.spec mul-lo add-lo returns times-requires times-requires-2 returns-2 returns-3)

@@ -23,7 +23,7 @@ returns c =
     negated-law (a .n .hi) (a .n .lo) (c .wrapping-sub-u643 .result) (c .before .before .before .before .wrapping-sub-u64 .result)
     (c .before .wrapping-sub-u642 .result) (c .before .before .if1 .borrow) (omega arith) (omega arith) (omega arith) (omega arith) (omega arith)
     (c .before .before .before .before .wrapping-sub-u64 .ensures) (c .before .wrapping-sub-u642 .ensures) (c .wrapping-sub-u643 .ensures)
-    (⊎-elim (λ w. inl (w .0 .taken, w .1)) (λ w. inr (w .0 .left, w .1)) (c .before .before .if1 .came))
+    (⊎-elim (λ w. inl (omega (arith, w .0 .taken), w .1)) (λ w. inr (omega (arith, w .0 .left), w .1)) (c .before .before .if1 .came))
 
 pub negated-spec : {M : Type 1} → statement M
 negated-spec =
