@@ -209,8 +209,8 @@ pub fn next_token(src: &[u8], at: usize) -> Lexed
                 return anew(literal);
             }
             Class::Other => {
-                let end = symbol_end(src, i + 1);
-                return Lexed::Token(Token::Symbol(end - i), i);
+                let len = symbol_end(src, i + 1) - i;
+                return Lexed::Token(Token::Symbol(len), i);
             }
         }
     }

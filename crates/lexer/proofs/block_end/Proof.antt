@@ -94,7 +94,7 @@ add-t12 c = let a = c .before .before .before in omega (arith, two-close (S a) (
 returns : tie.Need-returns Inv-loop μ-loop
 returns c =
     let a = c .before .before .before in
-    (omega arith, sym (block-close (S a) (I a) (D a) (P a) (told a ∙ c .before .enum-told2 .given .1) ∙ rw (left-last (D a) (P a) (c .if1 .taken)) refl) ∙ kept a)
+    (omega arith, sym (block-close (S a) (I a) (D a) (P a) (told a ∙ c .before .enum-told2 .given .1) ∙ rw (left-last (D a) (P a) (omega (arith, c .if1 .taken))) refl) ∙ kept a)
 
 sub-depth : tie.Need-sub-depth Inv-loop μ-loop
 sub-depth c = omega arith

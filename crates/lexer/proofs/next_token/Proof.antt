@@ -225,8 +225,8 @@ add-symbol-end c = omega arith
 symbol-end-requires : tie.Need-symbol-end-requires Inv-loop μ-loop
 symbol-end-requires c κs = tt
 
-sub-t29 : tie.Need-sub-t29 Inv-loop μ-loop
-sub-t29 c = omega (arith, c .symbol-end .ensures .0)
+sub-len : tie.Need-sub-len Inv-loop μ-loop
+sub-len c = omega (arith, c .symbol-end .ensures .0)
 
 returns-10 : tie.Need-returns-10 Inv-loop μ-loop
 returns-10 c = let a = c .before .before .before in rw (c .symbol-end .ensures .1) (sym (lex-other (S a) (I a) (lt a) (told a ∙ c .before .enum-told11 .given .1)) ∙ kept a)
@@ -290,6 +290,6 @@ next-token-spec =
     enum-told-11
     add-symbol-end
     symbol-end-requires
-    sub-t29
+    sub-len
     returns-10
     returns-11)
