@@ -79,7 +79,10 @@ pub fn pack(s: State) -> [u64; 8]
     match phase {
         Phase::Live(mode) => pack_mode(mode, place),
         Phase::Closed => [8, place, 0, 0, 0, 0, 0, 0],
-        Phase::Refused(r) => [9, place, r.place as u64, r.number as u64, 0, 0, 0, 0],
+        Phase::Refused(r) => {
+            let number = r.number as u64;
+            [9, place, r.place as u64, number, 0, 0, 0, 0]
+        }
     }
 }
 

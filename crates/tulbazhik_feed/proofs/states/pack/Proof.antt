@@ -17,8 +17,8 @@ enum-told c = search needs
 enum-known-phase-2 : tie.Need-enum-known-phase-2
 enum-known-phase-2 c = search needs
 
-cast-t8 : tie.Need-cast-t8
-cast-t8 c = search needs
+cast-number : tie.Need-cast-number
+cast-number c = search needs
 
 returns : tie.Need-returns
 unfolding packOf
@@ -40,7 +40,7 @@ pack-spec =
     pack-mode-requires
     enum-told
     enum-known-phase-2
-    cast-t8
+    cast-number
     returns
     returns-2
     returns-3)
