@@ -88,8 +88,8 @@ module _ (t : List ℕ) (at len kind : ℕ) (el : len ≡ numberIn 4 t at) (ek :
   pub symbol-entered : kind ≡ symbolKind → Bytes t → headLen ≤ len → Entered t at (recordAt t at) (Is (len - headLen) len 0)
   symbol-entered e hb h6 = entered (len - headLen) 0 (rw e refl) hb h6 (omega arith) (omega (arith, read-small t at len hb el))
 
-  pub list-entered : (n : ℕ) → n ≡ numberIn 4 t (at + headLen) → kind ≡ listKind → Bytes t → headLen ≤ len → Entered t at (recordAt t at) (Is (n + 1) len n)
-  list-entered n en e hb h6 = let l = read-small t (at + headLen) n hb en in entered (n + 1) n (rw (en, e) refl) hb h6 l (omega arith)
+  pub list-entered : (n k : ℕ) → n ≡ numberIn 4 t (at + headLen) → k ≡ n + 1 → kind ≡ listKind → Bytes t → headLen ≤ len → Entered t at (recordAt t at) (Is k len n)
+  list-entered n k en es e hb h6 = let l = read-small t (at + headLen) n hb en in entered k n (rw (es, en, e) refl) hb h6 l (omega arith)
 
   pub binding-entered : kind ≡ bindingKind → Bytes t → headLen ≤ len → Entered t at (recordAt t at) (Is (len - headLen + 3) len 1)
   binding-entered e hb h6 = entered (len - headLen + 3) 1 (rw e refl) hb h6 (omega arith) (omega (arith, read-small t at len hb el))

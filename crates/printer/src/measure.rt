@@ -83,12 +83,14 @@ fn measure_tree(
             if 0 < m.number {
                 return stopped(m.number, m.place);
             }
+            let cost = n + m.cost;
+            let laid = n + m.len;
             Size {
                 number: 0,
                 place: m.place,
-                cost: n + m.cost,
+                cost,
                 empty: m.empty,
-                len: n + m.len,
+                len: laid,
             }
         }
         Step::List(n) => measure_list(t, at + table::LIST_LEN, n, depth - 1, width, indent, column),

@@ -1,18 +1,19 @@
 -- `printer::print_wrapped`: the depth falls at each call; the laws of each record and of each item are cited.
-use mathlib.Core.Path.{refl, sym, _∙_}
+use mathlib.Core.Path.{_≡_, refl, sym, _∙_}
 use Prim.Native.Nat.{ℕ, _+_, _-_, _<_}
 use native.Mathlib.Omega.{arith}
 use borrow.Author.Needs.{needs}
 use lib.Dec.{eqb}
+use lib.ListN.{length}
 use borrow.Fn.Kinds.{In}
 use borrow.Fn.PlainCycle.{Measures, is, falls, and}
 use Rattle.table.proofs.Reading.{symbol-in, integer-in, binding-in, list-in}
-use Rattle.printer.specs.Layout.{Wrap}
+use Rattle.printer.specs.Layout.{Wrap, bytes, gap}
 use Rattle.printer.specs.PrivateWriting.{laid}
 use Rattle.printer.proofs.CheckedRecords.{bad-found, symbol-found, integer-found, binding-found, list-found, list-small}
 use Rattle.printer.proofs.ListTexts.{broken, laid-symbol, laid-integer, laid-binding}
 use Rattle.printer.proofs.LayoutBounds.{inner-le}
-use Rattle.printer.proofs.ListWriting.{atom-written, binding-size, binding-written, Filling, filling-begin, filling-item, filling-step, end-size, filling-end}
+use Rattle.printer.proofs.ListWriting.{atom-written, binding-size, binding-written, Filling, filling-begin, eqb-turn, filling-item, filling-step, end-size, filling-end}
 use Rattle.printer.proofs.ListWriting.{fitting-written, wrapped-text, wrapped-ready, wrapped-item}
 use Rattle.printer.proofs.print_wrapped.Reads as print-wrapped
 use Rattle.printer.proofs.print_wrapped.Kinds as print-wrapped-kinds
@@ -186,10 +187,15 @@ part-put-gap-end t c = search needs
 put-gap-requires : (t : ℕ) → print-wrapped-lts.Need-put-gap-requires (calls t) (print-wrapped-at t) print-wrapped.Post Inv-loop μ-loop
 put-gap-requires t c κs = let r = c .before .before .before .before .before .before .before .before .before .before .before .before .before .before .before .before .pre .1 in omega (arith, c .before .before .before .loop .inv .deeper, r .2)
 
+-- the line break before the item, however the test for the first is turned
+gapped : (t : ℕ) (c : print-wrapped-lts.After-put-gap (calls t) (print-wrapped-at t) print-wrapped.Post Inv-loop μ-loop)
+    → c .put-gap .result ≡ length (bytes (gap (eqb (c .before .before .before .before .loop .i) 0) Wrap (c .before .before .before .before .before .before .before .before .before .before .before .before .before .before .before .before .before .args .indent) 0))
+gapped t c = c .put-gap .ensures .0 ∙ search (eqb-turn 0 (c .before .before .before .before .loop .i))
+
 add-k : (t : ℕ) → print-wrapped-lts.Need-add-k (calls t) (print-wrapped-at t) print-wrapped.Post Inv-loop μ-loop
 add-k t c =
     let v = c .before .before .before .before .before .before .loop .inv in
-    omega (arith, filling-item v (c .before .before .before .before .before .loop-test .taken) .room, v .small, c .before .before .put-gap .ensures .0)
+    omega (arith, filling-item v (c .before .before .before .before .before .loop-test .taken) .room, v .small, gapped t (c .before .before))
 
 least-requires-3 : (t : ℕ) → print-wrapped-lts.Need-least-requires-3 (calls t) (print-wrapped-at t) print-wrapped.Post Inv-loop μ-loop
 least-requires-3 t c κs = search needs
@@ -231,7 +237,7 @@ add-w t c =
     let l = c .before .before .before .before .before .before .before .before .before .before .before .before .before .loop-test .taken in
     let s = c .before .before .before .before .before .before .before .before .before .before .before .before .before .before .before .before .before .before .before .before .before .before .before .before .before .before .before .args in
     let u = wrapped-item (s .width) (s .indent) v l _ _ (c .before .before .before .before .before .before .item-indent .ensures) (c .before .before .before .before .before .item-column .ensures) _ _ _ _ (c .before .before .before .print-wrapped2 .ensures) in
-    omega (arith, filling-item v l .room, v .small, u .1 .0, c .before .before .before .before .before .before .before .before .before .before .put-gap .ensures .0)
+    omega (arith, filling-item v l .room, v .small, u .1 .0, gapped t (c .before .before .before .before .before .before .before .before .before .before))
 
 add-i : (t : ℕ) → print-wrapped-lts.Need-add-i (calls t) (print-wrapped-at t) print-wrapped.Post Inv-loop μ-loop
 add-i t c = omega (arith, c .before .before .before .before .before .before .before .before .before .before .before .before .before .loop-test .taken, list-small _ _ _ _ (λ i. (c .before .before .before .before .before .before .before .before .before .before .before .before .before .before .before .before .before .before .before .before .before .before .before .before .before .before .shared-slice-known .given i) .fits) (c .before .before .before .before .before .before .before .before .before .before .before .before .before .before .before .before .before .before .before .before .before .before .before .before .record-at .ensures) (c .before .before .before .before .before .before .before .before .before .before .before .before .before .before .before .before .before .before .before .before .before .before .node3 .given .1))
@@ -245,7 +251,9 @@ loop-again t c =
     let l = c .before .before .before .before .before .before .before .before .before .before .before .before .before .loop-test .taken in
     let s = c .before .before .before .before .before .before .before .before .before .before .before .before .before .before .before .before .before .before .before .before .before .before .before .before .before .before .before .args in
     let u = wrapped-item (s .width) (s .indent) v l _ _ (c .before .before .before .before .before .before .item-indent .ensures) (c .before .before .before .before .before .item-column .ensures) _ _ _ _ (c .before .before .before .print-wrapped2 .ensures) in
-    filling-step v l _ _ _ _ _ _ _ _ (c .before .before .before .before .before .before .before .before .before .before .before .before .least2 .ensures .1) (c .before .before .before .before .before .before .before .before .before .before .put-gap .ensures) refl (c .before .before .before .before .before .before .before .before .before .out7 .given .1) (c .before .before .before .before .before .before .before .least3 .ensures .1) u (c .before .before .out8 .given .1)
+    let g = c .before .before .before .before .before .before .before .before .before .before .put-gap .ensures in
+    let z = gapped t (c .before .before .before .before .before .before .before .before .before .before) in
+    filling-step v l _ _ _ _ _ _ _ _ (c .before .before .before .before .before .before .before .before .before .before .before .before .least2 .ensures .1) (z, λ q. g .1 (omega (arith, q, z, g .0)) ∙ search (eqb-turn 0 (c .before .before .before .before .before .before .before .before .before .before .before .before .before .before .loop .i))) refl (c .before .before .before .before .before .before .before .before .before .out7 .given .1) (c .before .before .before .before .before .before .before .least3 .ensures .1) u (c .before .before .out8 .given .1)
 
 least-requires-4 : (t : ℕ) → print-wrapped-lts.Need-least-requires-4 (calls t) (print-wrapped-at t) print-wrapped.Post Inv-loop μ-loop
 least-requires-4 t c κs = search needs

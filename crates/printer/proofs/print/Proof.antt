@@ -3,6 +3,7 @@ use mathlib.Core.Bool.{true}
 use Rattle.table.specs.Decoding.{tableOf}
 use Rattle.printer.proofs.PageWriting.{print-right, print-no, print-short, print-text}
 use borrow.Author.Needs.{needs}
+use borrow.Author.Tests.{not-true, not-false, leb-true, leb-false}
 use Rattle.printer.proofs.print.Statement.{statement}
 use Rattle.printer.proofs.print.Tie as tie
 
@@ -20,7 +21,7 @@ returns c =
     let m = c .before .before .before .before in
     let s = m .before .before .before .args in
     let k = print-right (tableOf true (s .table .now)) _ _ _ (m .measure .ensures) (c .before .before .n .given .1) in
-    print-short (s .table .now) _ (s .width) (s .out .now) (k .0) (k .1) (c .if1 .taken)
+    print-short (s .table .now) _ (s .width) (s .out .now) (k .0) (k .1) (search (needs, not-true, leb-false))
 
 print-trees-requires : tie.Need-print-trees-requires
 print-trees-requires c κs =
@@ -40,7 +41,7 @@ returns-3 c =
     let m = c .before .before .before .before .before .before .before .before in
     let s = m .before .before .before .args in
     let k = print-right (tableOf true (s .table .now)) _ _ _ (m .measure .ensures) (c .before .before .before .before .before .before .n .given .1) in
-    print-text (s .table .now) _ (s .width) (s .out .now) (k .0) (k .1) (c .before .before .before .before .if1 .left) _ (c .before .before .print-trees .ensures .1)
+    print-text (s .table .now) _ (s .width) (s .out .now) (k .0) (k .1) (search (needs, not-false, leb-true)) _ (c .before .before .print-trees .ensures .1)
 
 pub print-spec : {M : Type 1} → statement M
 print-spec = tie.close (tie.spec measure-requires enum-known-r enum-known-n returns print-trees-requires returns-2 same-length returns-3)

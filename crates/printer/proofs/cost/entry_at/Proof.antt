@@ -38,7 +38,7 @@ returns-3 : tie.Need-returns-3
 returns-3 c =
     let k = c .before .before .before in
     let l = k .before .before in
-    list-entered _ _ _ _ (l .len-at .ensures) (k .kind-at .ensures) _ (c .u32-at .ensures) (c .before .if3 .taken) (λ i. (l .before .shared-slice-known .given i) .fits) (omega arith)
+    list-entered _ _ _ _ (l .len-at .ensures) (k .kind-at .ensures) _ _ (c .u32-at .ensures) (omega arith) (c .before .if3 .taken) (λ i. (l .before .shared-slice-known .given i) .fits) (omega arith)
 
 add-t10 : tie.Need-add-t10
 add-t10 c = search needs

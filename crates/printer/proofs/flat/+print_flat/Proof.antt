@@ -1,9 +1,11 @@
 -- `printer::flat::print_flat`: the depth falls at each call; the laws of each record and of each item are cited.
-use mathlib.Core.Path.{refl}
+use mathlib.Core.Path.{_≡_, refl, _∙_}
 use mathlib.Core.Logic.{⊎-elim}
 use Prim.Native.Nat.{ℕ, _-_, _<_}
 use native.Mathlib.Omega.{arith}
 use borrow.Author.Needs.{needs}
+use lib.Dec.{eqb}
+use lib.ListN.{length}
 use borrow.Fn.Kinds.{In}
 use borrow.Fn.PlainCycle.{Measures, is, falls, and}
 use Rattle.table.proofs.Reading.{symbol-in, integer-in, binding-in, list-in}
@@ -12,7 +14,7 @@ use Rattle.printer.specs.PrivateWriting.{line}
 use Rattle.printer.proofs.CheckedRecords.{bad-found, symbol-found, integer-found, binding-found, list-found, Named, symbol-named, list-small}
 use Rattle.printer.proofs.ListTexts.{flatly, line-symbol, line-integer, line-binding, line-list}
 use Rattle.printer.proofs.LayoutBounds.{right-line}
-use Rattle.printer.proofs.ListWriting.{atom-written, binding-size, binding-written, Filling, filling-begin, filling-is, filling-item, filling-step, end-size, filling-end}
+use Rattle.printer.proofs.ListWriting.{atom-written, binding-size, binding-written, Filling, filling-begin, filling-is, eqb-turn, filling-item, filling-step, end-size, filling-end}
 use Rattle.printer.proofs.flat.print_flat.Reads as print-flat
 use Rattle.printer.proofs.flat.print_flat.Kinds as print-flat-kinds
 use Rattle.printer.proofs.flat.+print_flat.Lts-print_flat as print-flat-lts
@@ -149,10 +151,15 @@ part-put-unless-end t c = search needs
 put-unless-requires : (t : ℕ) → print-flat-lts.Need-put-unless-requires (calls t) (print-flat-at t) print-flat.Post Inv-loop μ-loop
 put-unless-requires t c κs = search needs
 
+-- the space before the item, however the test for the first is turned
+spaced : (t : ℕ) (c : print-flat-lts.After-put-unless (calls t) (print-flat-at t) print-flat.Post Inv-loop μ-loop)
+    → c .put-unless .result ≡ length (flatly .before (eqb (c .before .before .before .before .loop .i) 0))
+spaced t c = c .put-unless .ensures .0 ∙ search (eqb-turn 0 (c .before .before .before .before .loop .i))
+
 add-k : (t : ℕ) → print-flat-lts.Need-add-k (calls t) (print-flat-at t) print-flat.Post Inv-loop μ-loop
 add-k t c =
     let v = c .before .before .before .before .before .before .loop .inv in
-    omega (arith, filling-item v (c .before .before .before .before .before .loop-test .taken) .room, v .small, c .before .before .put-unless .ensures .0)
+    omega (arith, filling-item v (c .before .before .before .before .before .loop-test .taken) .room, v .small, spaced t (c .before .before))
 
 least-requires-3 : (t : ℕ) → print-flat-lts.Need-least-requires-3 (calls t) (print-flat-at t) print-flat.Post Inv-loop μ-loop
 least-requires-3 t c κs = search needs
@@ -184,7 +191,7 @@ add-w t c =
     let v = c .before .before .before .before .before .before .before .before .before .before .before .before .before .loop .inv in
     let n = named t (c .before .before .before .before) in
     let k = payload-size (c .before .before .before .before .before .before .before .before .before .before .before .before .before .before .before .before .before .before .before .before .before .before .before .before .args .t .now) (c .before .before .before .before .before .before .before .before .before .before .before .before .before .loop .p) _ (n .1) (n .0) in
-    omega (arith, filling-item v (c .before .before .before .before .before .before .before .before .before .before .before .before .loop-test .taken) .room, v .small, k, n .1, c .before .before .put-symbol2 .ensures .0, c .before .before .before .before .before .before .before .before .before .put-unless .ensures .0, c .before .before .before .before .before .before .before .before .before .before .before .before .before .before .before .before .before .before .before .before .before .before .before .before .pre .1)
+    omega (arith, filling-item v (c .before .before .before .before .before .before .before .before .before .before .before .before .loop-test .taken) .room, v .small, k, n .1, c .before .before .put-symbol2 .ensures .0, spaced t (c .before .before .before .before .before .before .before .before .before), c .before .before .before .before .before .before .before .before .before .before .before .before .before .before .before .before .before .before .before .before .before .before .before .before .pre .1)
 
 add-p-2 : (t : ℕ) → print-flat-lts.Need-add-p-2 (calls t) (print-flat-at t) print-flat.Post Inv-loop μ-loop
 add-p-2 t c = omega (arith, named t (c .before .before .before .before) .1, c .before .before .before .before .before .before .before .before .before .before .before .before .before .before .before .before .before .before .before .before .before .before .before .before .pre .1)
@@ -211,7 +218,7 @@ print-flat-requires-2 t c κs =
 add-w-2 : (t : ℕ) → print-flat-lts.Need-add-w-2 (calls t) (print-flat-at t) print-flat.Post Inv-loop μ-loop
 add-w-2 t c =
     let v = c .before .before .before .before .before .before .before .before .before .before .before .before .before .before .loop .inv in
-    omega (arith, filling-item v (c .before .before .before .before .before .before .before .before .before .before .before .before .before .loop-test .taken) .room, v .small, c .before .before .before .print-flat2 .ensures .1 .0, c .before .before .before .before .before .before .before .before .before .before .put-unless .ensures .0)
+    omega (arith, filling-item v (c .before .before .before .before .before .before .before .before .before .before .before .before .before .loop-test .taken) .room, v .small, c .before .before .before .print-flat2 .ensures .1 .0, spaced t (c .before .before .before .before .before .before .before .before .before .before))
 
 add-i : (t : ℕ) → print-flat-lts.Need-add-i (calls t) (print-flat-at t) print-flat.Post Inv-loop μ-loop
 add-i t c = omega (arith, c .before .before .before .before .before .before .before .before .loop-test .taken, list-small _ _ _ _ (λ i. (c .before .before .before .before .before .before .before .before .before .before .before .before .before .before .before .before .before .before .before .shared-slice-known .given i) .fits) (c .before .before .before .before .before .before .before .before .before .before .before .before .before .before .before .before .before .record-at .ensures) (c .before .before .before .before .before .before .before .before .before .before .before .before .before .before .before .node3 .given .1))
@@ -225,11 +232,13 @@ loop-again t c =
     let l = c .before .before .before .before .before .before .before .before .loop-test .taken in
     let e = c .before .before .before .before .before .before .before .least2 .ensures .1 in
     let g = c .before .before .before .before .before .put-unless .ensures in
+    let z = spaced t (c .before .before .before .before .before) in
+    let f = eqb-turn 0 (c .before .before .before .before .before .before .before .before .before .loop .i) in
     let k = c .before .before .before .before .out6 .given .1 in
     ⊎-elim
-    (λ x. filling-is (filling-step v l _ _ _ _ _ _ _ _ e g refl k (c .before .before .least3 .ensures .1)
+    (λ x. filling-is (filling-step v l _ _ _ _ _ _ _ _ e (z, λ q. g .1 (omega (arith, q, z, g .0)) ∙ search f) refl k (c .before .before .least3 .ensures .1)
     (atom-written line _ _ _ _ _ _ _ (named t record { before = c .before; if1 = x .0 } .2) (line-symbol _) (x .2 .ensures)) (x .3 .given .1)) _ _ _ (x .5) (x .6) (x .7))
-    (λ x. filling-is (filling-step v l _ _ _ _ _ _ _ _ e g refl k (c .before .before .least3 .ensures .1) (x .2 .ensures) (x .3 .given .1)) _ _ _ (x .6) (x .7) (x .8))
+    (λ x. filling-is (filling-step v l _ _ _ _ _ _ _ _ e (z, λ q. g .1 (omega (arith, q, z, g .0)) ∙ search f) refl k (c .before .before .least3 .ensures .1) (x .2 .ensures) (x .3 .given .1)) _ _ _ (x .6) (x .7) (x .8))
     (c .if1 .came)
 
 least-requires-4 : (t : ℕ) → print-flat-lts.Need-least-requires-4 (calls t) (print-flat-at t) print-flat.Post Inv-loop μ-loop

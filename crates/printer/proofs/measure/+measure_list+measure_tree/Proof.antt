@@ -1,21 +1,22 @@
 -- `printer::measure::measure_tree` and `measure_list`, which call each other: the depth still allowed falls from a tree to the trees below it.
-use mathlib.Core.Path.{refl, ap}
+use mathlib.Core.Path.{_≡_, refl, ap, _∙_}
 use mathlib.Core.Logic.{⊎-elim}
 use Prim.Native.Nat.{ℕ, _+_, _*_, _-_, _≤_, _<_}
 use native.Mathlib.Omega.{arith}
-use native.Mathlib.Nat.{pos-of-ne-zero}
+use native.Mathlib.Nat.{pos-of-ne-zero, add-comm}
 use borrow.Author.Needs.{needs}
 use borrow.Fn.Kinds.{In}
 use borrow.Fn.PlainCycle.{Measures, is, falls, and}
 use lib.Dec.{eqb}
+use lib.ListN.{length}
 use Rattle.refusals.specs.Numbers.{depthLimit}
 use Rattle.wide.specs.Bytes.{Bytes}
 use Rattle.records.specs.Records.{headLen}
 use Rattle.table.specs.declared.Step.the-variants as step
 use Rattle.table.proofs.Steps.{step-in}
-use Rattle.printer.specs.Layout.{Wrap}
+use Rattle.printer.specs.Layout.{Wrap, bytes, nl}
 use Rattle.printer.proofs.LayoutBounds.{nl-len-le, inner-le, item-column-within}
-use Rattle.printer.proofs.MeasuringWalk.{got-tree, got-name, small, at-fault, at-symbol, at-integer, binding-stop, binding-good, at-list, list-few}
+use Rattle.printer.proofs.MeasuringWalk.{got-tree, name-from, got-name, small, at-fault, at-symbol, at-integer, binding-stop, binding-good, at-list, list-few}
 use Rattle.printer.proofs.MeasuringWalk.{Walk, walk-begin, walk-name, walk-tree, walk-stop, walk-line, walk-wide, none-sized, breaks-fit}
 use Rattle.printer.proofs.measure.measure_list.Reads as measure-list
 use Rattle.printer.proofs.measure.measure_list.Kinds as measure-list-kinds
@@ -80,6 +81,11 @@ measure-list-Inv-loop t at n depth width indent column p₀ i₀ cost₀ empty�
 abbrev measure-list-μ-loop : measure-list-lts.MeasureT-loop
 measure-list-μ-loop t at n depth width indent column p₀ i₀ cost₀ empty₀ len₀ p i cost empty len = n - i
 
+-- at a symbol the place past it was told apart from its own
+measure-list-past : (t : ℕ) (c : measure-list-lts.Then2 (measure-list-calls t) (measure-list-at t) measure-list.Post measure-list-Inv-loop measure-list-μ-loop)
+    → c .before .before .before .loop .p < c .before .past-symbol .result
+measure-list-past t c = omega (arith, c .if2 .taken, name-from _ _ _ (c .before .past-symbol .ensures))
+
 -- no sum wraps where a symbol is counted in, and where another tree is: the walk past it is bounded
 measure-list-named : (t : ℕ) (c : measure-list-lts.Then2 (measure-list-calls t) (measure-list-at t) measure-list.Post measure-list-Inv-loop measure-list-μ-loop)
     → (c .before .before .before .loop .cost + (c .before .past-symbol .result - c .before .before .before .loop .p - headLen) ≤ 8589934592)
@@ -89,7 +95,7 @@ measure-list-named t c =
     let b = c .before .before .before .before .before .before in
     let h = b .before .pre .1 in
     let g =
-    walk-name _ _ _ _ _ _ _ _ _ _ _ _ (l .inv .1) (c .before .before .loop-test .taken) _ _ _ _ _ (λ i. (b .shared-slice-known .given i) .fits) (h .2) (c .before .past-symbol .ensures) (c .if2 .taken) refl refl refl refl in
+    walk-name _ _ _ _ _ _ _ _ _ _ _ _ (l .inv .1) (c .before .before .loop-test .taken) _ _ _ _ _ (λ i. (b .shared-slice-known .given i) .fits) (h .2) (c .before .past-symbol .ensures) (measure-list-past t c) refl refl refl refl in
     (omega (arith, g .lines, g .from, g .within, h .1, h .4), omega (arith, g .lays, g .from, g .within, h .1, h .2))
 
 measure-list-treed : (t : ℕ) (c : measure-list-lts.After-struct-known2 (measure-list-calls t) (measure-list-at t) measure-list.Post measure-list-Inv-loop measure-list-μ-loop)
@@ -124,10 +130,10 @@ measure-list-past-symbol-requires : (t : ℕ) → measure-list-lts.Need-past-sym
 measure-list-past-symbol-requires t c κs = search needs
 
 measure-list-sub-k : (t : ℕ) → measure-list-lts.Need-sub-k (measure-list-calls t) (measure-list-at t) measure-list.Post measure-list-Inv-loop measure-list-μ-loop
-measure-list-sub-k t c = search needs
+measure-list-sub-k t c = omega (arith, measure-list-past t c)
 
 measure-list-sub-k-2 : (t : ℕ) → measure-list-lts.Need-sub-k-2 (measure-list-calls t) (measure-list-at t) measure-list.Post measure-list-Inv-loop measure-list-μ-loop
-measure-list-sub-k-2 t c = omega (arith, got-name _ 0 _ 0 0 0 _ (c .before .past-symbol .ensures) (c .if2 .taken) .0)
+measure-list-sub-k-2 t c = omega (arith, got-name _ 0 _ 0 0 0 _ (c .before .past-symbol .ensures) (measure-list-past t c) .0)
 
 measure-list-add-cost-2 : (t : ℕ) → measure-list-lts.Need-add-cost-2 (measure-list-calls t) (measure-list-at t) measure-list.Post measure-list-Inv-loop measure-list-μ-loop
 measure-list-add-cost-2 t c = omega (arith, measure-list-named t c .0)
@@ -183,7 +189,7 @@ measure-list-loop-again t c =
     let hb : Bytes (b .before .args .t .now) = λ i. (b .shared-slice-known .given i) .fits in (
       l .inv .0,
       ⊎-elim
-          (λ v. walk-name _ _ _ _ _ _ _ _ _ _ _ _ (l .inv .1) lt _ _ _ _ _ hb (h .2) (c .before .past-symbol .ensures) (v .0 .taken) (v .1) (v .2) (v .3) (v .4))
+          (λ v. walk-name _ _ _ _ _ _ _ _ _ _ _ _ (l .inv .1) lt _ _ _ _ _ hb (h .2) (c .before .past-symbol .ensures) (measure-list-past t record { before = c .before; if2 = v .0 }) (v .1) (v .2) (v .3) (v .4))
           (λ v. walk-tree _ _ _ _ _ _ _ _ _ _ _ _ (l .inv .1) lt _ _ _ _ _ _ _ hb (h .2) (v .1 .ensures) (v .2 .ensures) (v .3 .ensures) (v .5 .left) (v .9) (v .10) (v .11) (v .12))
           (c .if2 .came),
     )
@@ -209,25 +215,30 @@ measure-list-add-nl-len t c = search needs
 measure-list-nl-len-requires-2 : (t : ℕ) → measure-list-lts.Need-nl-len-requires-2 (measure-list-calls t) (measure-list-at t) measure-list.Post measure-list-Inv-loop measure-list-μ-loop
 measure-list-nl-len-requires-2 t c κs = let h = c .before .before .before .before .before .before .before .pre .1 in omega (arith, h .2)
 
+-- a line break before a further item, however its indent is added up
+measure-list-broken : (t : ℕ) (c : measure-list-lts.After-nl-len2 (measure-list-calls t) (measure-list-at t) measure-list.Post measure-list-Inv-loop measure-list-μ-loop)
+    → c .nl-len2 .result ≡ length (bytes (nl (c .before .before .before .before .before .before .before .before .args .indent + 1)))
+measure-list-broken t c = c .nl-len2 .ensures ∙ search (add-comm 1 (c .before .before .before .before .before .before .before .before .args .indent))
+
 measure-list-mul-t29 : (t : ℕ) → measure-list-lts.Need-mul-t29 (measure-list-calls t) (measure-list-at t) measure-list.Post measure-list-Inv-loop measure-list-μ-loop
 measure-list-mul-t29 t c =
     let s = c .before .before .before .before .before .before .before .before in
     let h = s .pre .1 in
-    omega (arith, breaks-fit (s .args .n - 1) (c .nl-len2 .result) (s .args .indent + 1) (omega (arith, h .4)) (omega (arith, h .2)) (c .nl-len2 .ensures))
+    omega (arith, breaks-fit (s .args .n - 1) (c .nl-len2 .result) (s .args .indent + 1) (omega (arith, h .4)) (omega (arith, h .2)) (measure-list-broken t c))
 
 measure-list-add-t30 : (t : ℕ) → measure-list-lts.Need-add-t30 (measure-list-calls t) (measure-list-at t) measure-list.Post measure-list-Inv-loop measure-list-μ-loop
 measure-list-add-t30 t c =
     let s = c .before .before .before .before .before .before .before .before in
     let h = s .pre .1 in
     let g = c .before .before .before .before .loop .inv .1 in
-    omega (arith, breaks-fit (s .args .n - 1) (c .nl-len2 .result) (s .args .indent + 1) (omega (arith, h .4)) (omega (arith, h .2)) (c .nl-len2 .ensures), g .lays, g .from, g .within, h .1)
+    omega (arith, breaks-fit (s .args .n - 1) (c .nl-len2 .result) (s .args .indent + 1) (omega (arith, h .4)) (omega (arith, h .2)) (measure-list-broken t c), g .lays, g .from, g .within, h .1)
 
 measure-list-returns-4 : (t : ℕ) → measure-list-lts.Need-returns-4 (measure-list-calls t) (measure-list-at t) measure-list.Post measure-list-Inv-loop measure-list-μ-loop
 measure-list-returns-4 t c =
     let l = c .before .before .before .before .loop in
     let n = c .before .before .before .before .before .before .before .before .args .n in
     walk-wide _ _ _ _ _ _ _ _ _ _ _ _ (l .inv .1) (c .before .before .before .loop-test .left) (l .inv .0) _ _ (c .before .before .fits-in .ensures) (c .before .if4 .left)
-    (refl, refl, refl, refl, ap (λ (j : ℕ). l .len + (n - 1) * j) (c .nl-len2 .ensures))
+    (refl, refl, refl, refl, ap (λ (j : ℕ). l .len + (n - 1) * j) (measure-list-broken t c))
 
 -- no sum wraps at a binding
 measure-tree-bound : (t : ℕ) (c : measure-tree-lts.After-struct-known2 (measure-tree-calls t) (measure-tree-at t) measure-tree.Post)
@@ -309,11 +320,11 @@ measure-tree-stopped-requires-2 t c κs = search needs
 measure-tree-returns : (t : ℕ) → measure-tree-lts.Need-returns (measure-tree-calls t) (measure-tree-at t) measure-tree.Post
 measure-tree-returns t c = binding-stop _ _ _ _ (c .before .before .before .before .before .before .before .step-at .ensures) _ _ _ _ _ _ (c .before .before .before .before .before .step3 .given .1) (c .before .before .before .measure-tree .ensures) (c .before .if1 .taken) (c .stopped2 .ensures)
 
-measure-tree-add-t22 : (t : ℕ) → measure-tree-lts.Need-add-t22 (measure-tree-calls t) (measure-tree-at t) measure-tree.Post
-measure-tree-add-t22 t c = omega (arith, measure-tree-bound t c .0)
+measure-tree-add-cost : (t : ℕ) → measure-tree-lts.Need-add-cost (measure-tree-calls t) (measure-tree-at t) measure-tree.Post
+measure-tree-add-cost t c = omega (arith, measure-tree-bound t c .0)
 
-measure-tree-add-t23 : (t : ℕ) → measure-tree-lts.Need-add-t23 (measure-tree-calls t) (measure-tree-at t) measure-tree.Post
-measure-tree-add-t23 t c = omega (arith, measure-tree-bound t (c .before) .1)
+measure-tree-add-laid : (t : ℕ) → measure-tree-lts.Need-add-laid (measure-tree-calls t) (measure-tree-at t) measure-tree.Post
+measure-tree-add-laid t c = omega (arith, measure-tree-bound t (c .before) .1)
 
 measure-tree-enum-known-step-4 : (t : ℕ) → measure-tree-lts.Need-enum-known-step-4 (measure-tree-calls t) (measure-tree-at t) measure-tree.Post
 measure-tree-enum-known-step-4 t c = search needs
@@ -362,6 +373,6 @@ pub +measure-list+measure-tree-spec : {M : Type 1} → statement M
     (measure-tree-add-wide-at t) (measure-tree-wide-at-requires t) (measure-tree-text-len-requires t) (measure-tree-atom-requires-2 t)
     (measure-tree-enum-known-step-3 t) (measure-tree-sub-n t) (measure-tree-add-n t) (measure-tree-add-measure-tree t) (measure-tree-sub-measure-tree t)
     (measure-tree-add-measure-tree-2 t) (measure-tree-measure-tree-requires t) (measure-tree-stopped-requires-2 t) (measure-tree-returns t)
-    (measure-tree-add-t22 t) (measure-tree-add-t23 t) (measure-tree-enum-known-step-4 t) (measure-tree-add-measure-list t)
+    (measure-tree-add-cost t) (measure-tree-add-laid t) (measure-tree-enum-known-step-4 t) (measure-tree-add-measure-list t)
     (measure-tree-sub-measure-list t) (measure-tree-measure-list-requires t) (measure-tree-returns-2 t) (measure-tree-returns-3 t)
     (measure-tree-returns-4 t) (measure-tree-returns-5 t) (measure-tree-returns-6 t)
