@@ -22,7 +22,7 @@ pub fn class_of(b: u8) -> Class
     if is_space(b) {
         return Class::Space;
     }
-    if is_line_end(b) {
+    if ends_line(b) {
         return Class::LineEnd;
     }
     if b == 59 {
@@ -55,6 +55,12 @@ fn is_space(b: u8) -> bool
     (b == 9) | (b == 32)
 }
 
+fn ends_line(b: u8) -> bool
+    ensures { λ r. ⌜ r ≡ lineEnd (classOf b) ⌝ }
+{
+    (b == 10) | (b == 13)
+}
+
 fn is_decimal(b: u8) -> bool
     ensures { λ r. ⌜ r ≡ decimal (classOf b) ⌝ }
 {
@@ -73,7 +79,7 @@ pub fn is_line_end(b: u8) -> bool
     if 13 < b {
         return false;
     }
-    (b == 10) | (b == 13)
+    ends_line(b)
 }
 
 pub fn is_sym_first_char(b: u8) -> bool

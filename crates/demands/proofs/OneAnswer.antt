@@ -25,7 +25,9 @@ use Rattle.feeder.specs.declared.Answer.the-variants as answer
 use Rattle.feeder.specs.declared.Out.{Out}
 use Rattle.feeder.specs.declared.Fed.{Fed}
 use Rattle.feeder.specs.Feeding.{Fed as Called, replyOf, fedOf}
-use Rattle.table.proofs.Answers.{verdict-same}
+use Rattle.table.specs.declared.Checked.{Checked}
+use Rattle.table.specs.declared.Checked.the-variants as checked
+use Rattle.table.specs.Decoding.{verdictOf}
 use Rattle.printer.specs.declared.Printed.{Printed}
 use Rattle.printer.specs.declared.Printed.the-variants as printed
 use Rattle.printer.specs.Printing.{printOf}
@@ -132,6 +134,12 @@ fed-same f g p q e =
   where
     at : (a b : Answer) (m n : ℕ) (s t : State) → a ≡ b → m ≡ n → s ≡ t → _≡_ {A = Fed} (record { out = record { answer = a; used = m }; state = s }) (record { out = record { answer = b; used = n }; state = t })
     at a b m n s t e f g = rw (e, f, g) refl
+
+pub verdict-same : (a b : Checked) → verdictOf a ≡ verdictOf b → a ≡ b
+verdict-same checked.Good checked.Good e = refl
+verdict-same checked.Good (checked.Refused r) e = cc
+verdict-same (checked.Refused r) checked.Good e = cc
+verdict-same (checked.Refused r) (checked.Refused s) e = ap checked.Refused (refusal-same r s (cc) (cc))
 
 pub read-same : (a b : Readout) → readOf a ≡ readOf b → a ≡ b
 read-same (read.Table n) (read.Table m) e = ap read.Table (cc)

@@ -6,7 +6,6 @@ pub mod Encoded
 pub mod Decoded
 pub mod Steps
 pub mod Checking
-pub mod Answers
 pub mod Whole
 pub mod Deeper
 pub mod Cases

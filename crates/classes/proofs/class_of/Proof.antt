@@ -32,11 +32,11 @@ is-space-requires c κs = search needs
 returns : tie.Need-returns
 returns c = sym (space-is _ (sym (c .before .is-space .ensures) ∙ c .if1 .taken))
 
-is-line-end-requires : tie.Need-is-line-end-requires
-is-line-end-requires c κs = search needs
+ends-line-requires : tie.Need-ends-line-requires
+ends-line-requires c κs = search needs
 
 returns-2 : tie.Need-returns-2
-returns-2 c = sym (line-end-is _ (sym (c .before .is-line-end .ensures) ∙ c .if2 .taken))
+returns-2 c = sym (line-end-is _ (sym (c .before .ends-line .ensures) ∙ c .if2 .taken))
 
 returns-3 : tie.Need-returns-3
 unfolding classOf
@@ -76,7 +76,7 @@ returns-10 c =
     let none : met b ≡ symbolFirst (classOf b) =
     simp (
       sym (l .before .before .before .is-space .ensures) ∙ l .before .before .if1 .left,
-      sym (l .before .is-line-end .ensures) ∙ l .if2 .left,
+      sym (l .before .ends-line .ensures) ∙ l .if2 .left,
       ne-eqb b 59 (λ e. d .before .before .before .before .before .if3 .left (omega (arith, e))),
       ne-eqb b 40 (λ e. d .before .before .before .before .if4 .left (omega (arith, e))),
       ne-eqb b 41 (λ e. d .before .before .before .if5 .left (omega (arith, e))),
@@ -91,4 +91,4 @@ returns-10 c =
 pub class-of-spec : {M : Type 1} → statement M
 class-of-spec =
     tie.close
-    (tie.spec is-space-requires returns is-line-end-requires returns-2 returns-3 returns-4 returns-5 returns-6 returns-7 returns-8 is-decimal-requires returns-9 returns-10)
+    (tie.spec is-space-requires returns ends-line-requires returns-2 returns-3 returns-4 returns-5 returns-6 returns-7 returns-8 is-decimal-requires returns-9 returns-10)

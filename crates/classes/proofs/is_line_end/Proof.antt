@@ -1,8 +1,8 @@
 -- `classes::is_line_end`: the tests and the class agree on every byte, which antt computes.
 use Prim.Native.Nat.{ℕ}
 use mathlib.Core.Path.{refl, sym, ap, _∙_}
-use mathlib.Core.Bool.{false, cond, _||_}
-use lib.Dec.{eqb, ltb}
+use mathlib.Core.Bool.{false, cond}
+use lib.Dec.{ltb}
 use Rattle.lists.proofs.Each.{agree}
 use Rattle.classes.specs.Classes.{classOf, lineEnd}
 use borrow.Author.Needs.{needs}
@@ -17,9 +17,11 @@ returns c =
     sym (ap (λ t. cond t false (lineEnd (classOf b))) (lt-ltb 13 b (c .if1 .taken)))
     ∙ agree (λ b. cond (ltb 13 b) false (lineEnd (classOf b))) (λ b. lineEnd (classOf b)) refl b (search needs)
 
+ends-line-requires : tie.Need-ends-line-requires
+ends-line-requires c κs = search needs
+
 returns-2 : tie.Need-returns-2
-unfolding classOf
-returns-2 c = agree (λ b. eqb b 10 || eqb b 13) (λ b. lineEnd (classOf b)) refl (c .before .args .b) (search needs)
+returns-2 c = c .ends-line .ensures
 
 pub is-line-end-spec : {M : Type 1} → statement M
-is-line-end-spec = tie.close (tie.spec returns returns-2)
+is-line-end-spec = tie.close (tie.spec returns ends-line-requires returns-2)
