@@ -70,11 +70,15 @@ refused-requires-2 c κs = search needs
 
 returns-2 : tie.Need-returns-2 Inv-loop μ-loop
 unfolding nextToken
-returns-2 c = simp (c .refused2 .ensures, le-ltb _ _ (c .before .before .if1 .left), lt-ltb _ _ (c .before .if2 .taken))
+returns-2 c =
+    let a = c .before .before .before .before .args in
+    simp (c .refused2 .ensures, le-ltb _ _ (c .before .before .if1 .left), lt-ltb (length (a .src .now)) (a .at) (search needs))
 
 loop-holds : tie.Need-loop-holds Inv-loop μ-loop
 unfolding nextToken
-loop-holds c = (omega (arith, c .before .if1 .left), simp (le-ltb _ _ (c .before .if1 .left), le-ltb _ _ (c .if2 .left)))
+loop-holds c =
+    let a = c .before .before .before .args in
+    (omega (arith, c .before .if1 .left), simp (le-ltb _ _ (c .before .if1 .left), le-ltb (length (a .src .now)) (a .at) (search needs)))
 
 shared-slice-read-class-of : tie.Need-shared-slice-read-class-of Inv-loop μ-loop
 shared-slice-read-class-of c = omega arith

@@ -9,7 +9,7 @@ returns c =
     let r = c .before .before .before .before .before in
     rw (c .refused3 .ensures)
     (short-told (r .before .before .before .before .before .args .src .now) _ _ _ _ _ _ _ (r .before .read-items .ensures)
-    (r .before .before .before .before .before .args .table .now) (c .before .before .before .enum-told3 .given .1) (c .before .if1 .taken))
+    (r .before .before .before .before .before .args .table .now) (c .before .before .before .enum-told3 .given .1) (search needs))
 
 returns-2 : tie.Need-returns-2
 returns-2 c =
