@@ -1,11 +1,11 @@
 -- A class by a question that it alone answers yes, and the first byte of a literal. Assumes nothing.
 use Prim.Native.Nat.{ℕ, _-_, _≤_}
 use mathlib.Core.Path.{_≡_, refl, sym}
-use mathlib.Core.Bool.{Bool, true, false, _&&_, _||_}
+use mathlib.Core.Bool.{true, false, _&&_, _||_}
 use native.Mathlib.Omega.{arith}
 use lib.Dec.{eqb, leb}
-use borrow.Author.Tests.{leb-true, le-leb, ne-eqb}
-use Rattle.lists.proofs.Choice.{pick, at-least, and-right, or-right, true-false}
+use borrow.Author.Tests.{leb-true, le-leb}
+use Rattle.lists.proofs.Choice.{pick, and-right, or-right, true-false}
 use Rattle.classes.specs.Classes.{Class, Space, LineEnd, Semicolon, LParen, RParen, AtSign, FormFeed, Minus, Digit, Other, classOf, space, lineEnd, decimal, symbolFirst, digitOf, literalByte}
 
 -- what a question that one class alone answers yes tells of a class

@@ -1,6 +1,6 @@
 -- For each public function of the lent entrance two wrong answers that its promise rules out, on a given input, refuted by computation.
 use mathlib.Core.Path.{_≡_, ap}
-use mathlib.Core.List.{List, [], _∷_}
+use mathlib.Core.List.{[], _∷_}
 use Prim.Native.Nat.{ℕ}
 use native.Mathlib.Omega.{arith}
 use Rattle.classes.specs.Classes.{classOf}
@@ -8,7 +8,6 @@ use Rattle.lexer.specs.declared.Token.the-variants.{RParen}
 use Rattle.feeder.specs.declared.Answer.{Answer}
 use Rattle.feeder.specs.declared.Answer.the-variants as answer
 use Rattle.feeder.specs.declared.Out.{Out}
-use Rattle.feeder.specs.declared.State.{State}
 use Rattle.feeder.specs.declared.Mode.the-variants.{Blank, Symbol as InSymbol}
 use Rattle.feeder.specs.Machine.{turn, step, closing}
 use Rattle.feeder.specs.Feeding.{Fed, live, closed, freshState, feedFrom, feedOf, closeOf, fedOf}

@@ -6,7 +6,7 @@ use Prim.Native.Nat.{ℕ, _+_, _-_, _≤_, _<_}
 use native.Mathlib.Omega.{arith}
 use lib.Dec.{eqb}
 use lib.ListN.{length, length-append, take, drop}
-use borrow.Author.Tests.{eqb-true, eqb-false, eq-eqb, ne-eqb}
+use borrow.Author.Tests.{ne-eqb}
 use borrow.Rule.Slice.PartMut.{putMid}
 use Rattle.refusals.specs.Result.{Result, ok, refused}
 use Rattle.table.specs.Kinds.{listLen}
@@ -45,14 +45,6 @@ module _ (text text′ : Tree → List ℕ) (nm : List ℕ) (d : ℕ) (y z : Res
   )
 
 -- ---- a list, in either manner
-
--- a test for the first item may stand either way round
-pub eqb-turn : (a b : ℕ) → eqb a b ≡ eqb b a
-eqb-turn a b = by (eqb b a) refl
-  where
-    by : (x : Bool) → eqb b a ≡ x → eqb a b ≡ x
-    by true e = eq-eqb a b (sym (eqb-true b a e))
-    by false e = ne-eqb a b (λ q. eqb-false b a e (sym q))
 
 module _ (t : List ℕ) (at d n : ℕ) (m : Manner) (c : ℕ) where
   -- the n items behind the record at `at`, and the list of them

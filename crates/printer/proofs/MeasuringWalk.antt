@@ -14,17 +14,14 @@ use Rattle.refusals.specs.Numbers.{tableLimit, depthLimit, tooLong}
 use Rattle.refusals.specs.Result.{Result, ok, refused}
 use Rattle.wide.specs.Bytes.{Bytes, wideIn}
 use Rattle.wide.specs.Text.{integerText}
-use Rattle.table.specs.Trees.{Tree, Trees, symbol, list, none, more, count, isSymbol}
+use Rattle.table.specs.Trees.{Tree, Trees, symbol, list, none, more, count}
 use Rattle.records.specs.Records.{headLen, payload}
 use Rattle.records.proofs.Heads.{part-lt, payload-size}
 use Rattle.table.specs.Kinds.{integerLen, listLen}
 use Rattle.table.specs.Decoding.{Found, found, andThen, itemsAt, stepAt, ofStep, treeAt, tableOf}
 use Rattle.table.specs.declared.Step.{Step}
 use Rattle.table.specs.declared.Step.the-variants as step
-use Rattle.table.specs.declared.Record.{Record}
-use Rattle.table.specs.declared.Record.the-variants.{Symbol, Integer, Binding, List as ListOf, Bad}
-use Rattle.table.specs.Records.{recordAt}
-use Rattle.table.specs.Past.{pastName, pastSymbol}
+use Rattle.table.specs.Past.{pastSymbol}
 use Rattle.table.proofs.Steps.{step-tree, step-in, symbol-there, found-in, Gone, gone-begin, gone-item, gone-stop, gone-end}
 use Rattle.table.proofs.Steps.{Read, too-long, read-begin, read-tree, read-stop, read-end}
 use Rattle.printer.specs.Layout.{Wrap, SingleLine, bytes, column, named, nl, gap, inner, fitsIn, lay, items, cost, costs, pageFrom, page}
@@ -56,22 +53,6 @@ got-tree t d p w i c m s h = by (treeAt t true d p) refl s
 
 payload-is : (t : List ℕ) (at len : ℕ) → headLen ≤ len → len ≤ length t - at → length (payload t at len) ≡ len - headLen
 payload-is t at len h6 hl = omega (arith, payload-size t at len (omega arith) h6)
-
--- the place past what may be a symbol is never before it
-pub name-from : (t : List ℕ) (p q : ℕ) → q ≡ pastSymbol t p → p ≤ q
-unfolding pastSymbol
-name-from t p q e = subst⁻¹ (λ (j : ℕ). p ≤ j) e (by (recordAt t p))
-  where
-    named-from : (b : Bool) (n : ℕ) → p ≤ cond b (p + n) p
-    named-from true n = omega arith
-    named-from false n = omega arith
-
-    by : (x : Record) → p ≤ pastName t p x
-    by (Symbol n) = named-from (isSymbol (payload t p n)) n
-    by Integer = omega arith
-    by (Binding n) = omega arith
-    by (ListOf n) = omega arith
-    by (Bad n) = omega arith
 
 pub got-name : (t : List ℕ) (d p w i c q : ℕ) → q ≡ pastSymbol t p → p < q → (headLen ≤ q - p) × Got t d p w i c q (q - p - headLen) 0 (q - p - headLen)
 unfolding lay cost line

@@ -41,6 +41,22 @@ pub symbol-is : (t : List ℕ) (at : ℕ) (x y : Record) (r : ℕ) → x ≡ rec
 unfolding pastSymbol
 symbol-is t at x y r e e′ f = f ∙ ap (pastName t at) (sym e′ ∙ e)
 
+-- `past_symbol` never goes back
+pub symbol-from : (t : List ℕ) (at q : ℕ) → q ≡ pastSymbol t at → at ≤ q
+unfolding pastSymbol
+symbol-from t at q e = rw e (by (recordAt t at))
+  where
+    named : (b : Bool) (len : ℕ) → at ≤ cond b (at + len) at
+    named true len = omega arith
+    named false len = omega arith
+
+    by : (x : Record) → at ≤ pastName t at x
+    by (Symbol len) = named (isSymbol (payload t at len)) len
+    by Integer = omega arith
+    by (Binding len) = omega arith
+    by (ListOf n) = omega arith
+    by (Bad n) = omega arith
+
 -- where `past_symbol` goes on, a good symbol stands
 pub symbol-there : (t : List ℕ) (w : Bool) (d at q : ℕ) → q ≡ pastSymbol t at → at < q
     → (headLen ≤ q - at) × (q - at ≤ length t - at) × (treeAt t w d at ≡ ok (found (symbol (payload t at (q - at))) q))

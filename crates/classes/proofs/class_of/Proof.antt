@@ -2,14 +2,14 @@
 -- over every byte.
 use Prim.Native.Nat.{ℕ, _<_}
 use mathlib.Core.Path.{_≡_, refl, sym, _∙_}
-use mathlib.Core.Bool.{Bool, true, false, _||_}
+use mathlib.Core.Bool.{Bool, true, _||_}
 use native.Mathlib.Omega.{arith}
 use lib.Dec.{eqb}
 use borrow.Author.Needs.{needs}
 use borrow.Author.Tests.{ne-eqb}
 use Rattle.lists.proofs.Each.{each}
 use Rattle.classes.proofs.Firsts.{space-is, line-end-is, decimal-is, first-other}
-use Rattle.classes.specs.Classes.{Class, Semicolon, LParen, RParen, AtSign, FormFeed, Minus, classOf, space, lineEnd, decimal, symbolFirst}
+use Rattle.classes.specs.Classes.{Class, classOf, space, lineEnd, decimal, symbolFirst}
 use Rattle.classes.proofs.class_of.Statement.{statement}
 use Rattle.classes.proofs.class_of.Tie as tie
 

@@ -8,12 +8,13 @@ use lib.ListN.{length}
 use borrow.Fn.Kinds.{In}
 use borrow.Fn.PlainCycle.{Measures, is, falls, and}
 use Rattle.table.proofs.Reading.{symbol-in, integer-in, binding-in, list-in}
+use Rattle.lists.proofs.Choice.{eqb-turn}
 use Rattle.printer.specs.Layout.{Wrap, bytes, gap}
 use Rattle.printer.specs.PrivateWriting.{laid}
 use Rattle.printer.proofs.CheckedRecords.{bad-found, symbol-found, integer-found, binding-found, list-found, list-small}
 use Rattle.printer.proofs.ListTexts.{broken, laid-symbol, laid-integer, laid-binding}
 use Rattle.printer.proofs.LayoutBounds.{inner-le}
-use Rattle.printer.proofs.ListWriting.{atom-written, binding-size, binding-written, Filling, filling-begin, eqb-turn, filling-item, filling-step, end-size, filling-end}
+use Rattle.printer.proofs.ListWriting.{atom-written, binding-size, binding-written, Filling, filling-begin, filling-item, filling-step, end-size, filling-end}
 use Rattle.printer.proofs.ListWriting.{fitting-written, wrapped-text, wrapped-ready, wrapped-item}
 use Rattle.printer.proofs.print_wrapped.Reads as print-wrapped
 use Rattle.printer.proofs.print_wrapped.Kinds as print-wrapped-kinds

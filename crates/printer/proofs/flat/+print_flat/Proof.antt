@@ -10,11 +10,12 @@ use borrow.Fn.Kinds.{In}
 use borrow.Fn.PlainCycle.{Measures, is, falls, and}
 use Rattle.table.proofs.Reading.{symbol-in, integer-in, binding-in, list-in}
 use Rattle.records.proofs.Heads.{payload-size}
+use Rattle.lists.proofs.Choice.{eqb-turn}
 use Rattle.printer.specs.PrivateWriting.{line}
 use Rattle.printer.proofs.CheckedRecords.{bad-found, symbol-found, integer-found, binding-found, list-found, Named, symbol-named, list-small}
 use Rattle.printer.proofs.ListTexts.{flatly, line-symbol, line-integer, line-binding, line-list}
 use Rattle.printer.proofs.LayoutBounds.{right-line}
-use Rattle.printer.proofs.ListWriting.{atom-written, binding-size, binding-written, Filling, filling-begin, filling-is, eqb-turn, filling-item, filling-step, end-size, filling-end}
+use Rattle.printer.proofs.ListWriting.{atom-written, binding-size, binding-written, Filling, filling-begin, filling-is, filling-item, filling-step, end-size, filling-end}
 use Rattle.printer.proofs.flat.print_flat.Reads as print-flat
 use Rattle.printer.proofs.flat.print_flat.Kinds as print-flat-kinds
 use Rattle.printer.proofs.flat.+print_flat.Lts-print_flat as print-flat-lts

@@ -13,10 +13,10 @@ use Rattle.refusals.specs.Numbers.{depthLimit}
 use Rattle.wide.specs.Bytes.{Bytes}
 use Rattle.records.specs.Records.{headLen}
 use Rattle.table.specs.declared.Step.the-variants as step
-use Rattle.table.proofs.Steps.{step-in}
+use Rattle.table.proofs.Steps.{step-in, symbol-from}
 use Rattle.printer.specs.Layout.{Wrap, bytes, nl}
 use Rattle.printer.proofs.LayoutBounds.{nl-len-le, inner-le, item-column-within}
-use Rattle.printer.proofs.MeasuringWalk.{got-tree, name-from, got-name, small, at-fault, at-symbol, at-integer, binding-stop, binding-good, at-list, list-few}
+use Rattle.printer.proofs.MeasuringWalk.{got-tree, got-name, small, at-fault, at-symbol, at-integer, binding-stop, binding-good, at-list, list-few}
 use Rattle.printer.proofs.MeasuringWalk.{Walk, walk-begin, walk-name, walk-tree, walk-stop, walk-line, walk-wide, none-sized, breaks-fit}
 use Rattle.printer.proofs.measure.measure_list.Reads as measure-list
 use Rattle.printer.proofs.measure.measure_list.Kinds as measure-list-kinds
@@ -84,7 +84,7 @@ measure-list-μ-loop t at n depth width indent column p₀ i₀ cost₀ empty₀
 -- at a symbol the place past it was told apart from its own
 measure-list-past : (t : ℕ) (c : measure-list-lts.Then2 (measure-list-calls t) (measure-list-at t) measure-list.Post measure-list-Inv-loop measure-list-μ-loop)
     → c .before .before .before .loop .p < c .before .past-symbol .result
-measure-list-past t c = omega (arith, c .if2 .taken, name-from _ _ _ (c .before .past-symbol .ensures))
+measure-list-past t c = omega (arith, c .if2 .taken, symbol-from _ _ _ (c .before .past-symbol .ensures))
 
 -- no sum wraps where a symbol is counted in, and where another tree is: the walk past it is bounded
 measure-list-named : (t : ℕ) (c : measure-list-lts.Then2 (measure-list-calls t) (measure-list-at t) measure-list.Post measure-list-Inv-loop measure-list-μ-loop)
