@@ -16,7 +16,7 @@
 #include <stdint.h>
 
 /* MAJOR grows when something changes that a caller relies on, MINOR when something is added. */
-#define TULBAZHIK_VERSION_MAJOR 1
+#define TULBAZHIK_VERSION_MAJOR 2
 #define TULBAZHIK_VERSION_MINOR 0
 
 /* Bytes of a source; bytes of a table, enough for the table of any source; lists and bindings open at once. */
@@ -69,25 +69,28 @@ enum {
 
 /* The numbers of refusals, and the place that each names. No refusal changes a byte of a room. */
 enum {
-    TULBAZHIK_TOO_LONG = 1,        /* source, table or feed too long; its limit */
-    TULBAZHIK_PAST_SOURCE = 2,     /* the start is past the source; the source's length */
-    TULBAZHIK_FORM_FEED = 3,       /* a form feed where a token should start; its byte */
-    TULBAZHIK_OPEN_COMMENT = 4,    /* a block comment open at the end; the outermost `(;` */
-    TULBAZHIK_NO_DIGITS = 5,       /* a literal without digits; the literal */
-    TULBAZHIK_FOREIGN_DIGIT = 6,   /* a digit foreign to the radix; the literal */
-    TULBAZHIK_TOO_LARGE = 7,       /* above 2^128-1; the literal */
-    TULBAZHIK_MINUS_LOWEST = 8,    /* `-` with 2^127; the literal */
-    TULBAZHIK_NO_LIST_OPEN = 9,    /* `)` with no list open; it */
-    TULBAZHIK_LIST_OPEN = 10,      /* a list open at the end; the innermost open `(` */
-    TULBAZHIK_NO_SYMBOL = 11,      /* `@` with no symbol before it; it */
-    TULBAZHIK_NO_TREE = 12,        /* `)` or the end after a binding's `@`; it, or the source's length */
-    TULBAZHIK_TOO_DEEP = 13,       /* the 65th list or binding open; `(` or name, or record */
-    TULBAZHIK_TABLE_ROOM = 14,     /* the table needs more room; the bytes needed */
-    TULBAZHIK_BAD_RECORD = 15,     /* a bad record or missing trees; the record, or the table's length */
-    TULBAZHIK_BAD_SYMBOL = 16,     /* a symbol or name that the lexer would not read as one; the record */
-    TULBAZHIK_LOWEST = 17,         /* the integer -2^127 at printing; the record */
-    TULBAZHIK_PRINT_ROOM = 18,     /* the print needs more room; the bytes needed */
-    TULBAZHIK_FED_AFTER_CLOSE = 19 /* fed after a close; the bytes consumed so far */
+    TULBAZHIK_TOO_LONG = 1,         /* source, table or feed too long; its limit */
+    TULBAZHIK_PAST_SOURCE = 2,      /* the start is past the source; the source's length */
+    TULBAZHIK_FORM_FEED = 3,        /* a form feed where a token should start; its byte */
+    TULBAZHIK_OPEN_COMMENT = 4,     /* a block comment open at the end; the outermost `(;` */
+    TULBAZHIK_NO_DIGITS = 5,        /* a literal without digits; the literal */
+    TULBAZHIK_FOREIGN_DIGIT = 6,    /* a digit foreign to the radix; that digit */
+    TULBAZHIK_TOO_LARGE = 7,        /* above 2^128-1; the digit that takes it there */
+    TULBAZHIK_MINUS_LOWEST = 8,     /* `-` with 2^127; the literal */
+    TULBAZHIK_NO_LIST_OPEN = 9,     /* `)` with no list open; it */
+    TULBAZHIK_LIST_OPEN = 10,       /* a list open at the end; the innermost open `(` */
+    TULBAZHIK_NO_SYMBOL = 11,       /* `@` with no symbol before it; it */
+    TULBAZHIK_NO_TREE = 12,         /* `)` or the end after a binding's `@`; it, or the source's length */
+    TULBAZHIK_TOO_DEEP = 13,        /* the 65th list or binding open; `(` or name, or record */
+    TULBAZHIK_TABLE_ROOM = 14,      /* the table needs more room; the bytes needed */
+    TULBAZHIK_BAD_RECORD = 15,      /* a record cut short, or its length below 6 or past the table; the record */
+    TULBAZHIK_BAD_SYMBOL = 16,      /* a symbol or name that the lexer would not read as one; the record */
+    TULBAZHIK_LOWEST = 17,          /* the integer -2^127 at printing; the record */
+    TULBAZHIK_PRINT_ROOM = 18,      /* the print needs more room; the bytes needed */
+    TULBAZHIK_FED_AFTER_CLOSE = 19, /* fed after a close; the bytes consumed so far */
+    TULBAZHIK_UNKNOWN_KIND = 20,    /* a record of unknown kind; the record */
+    TULBAZHIK_WRONG_LENGTH = 21,    /* a record's length is wrong for its kind; the record */
+    TULBAZHIK_MISSING_TREES = 22    /* trees are missing; the table's length */
 };
 
 /* A table is records one after another: the nodes of each tree in preorder, all numbers little-endian.

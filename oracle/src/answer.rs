@@ -15,7 +15,7 @@ pub trait Side {
     fn feeder(&self, source: &[u8]) -> Box<dyn Feeder>;
     /// The whole table, or the first of 3 to 13.
     fn read(&self, source: &[u8]) -> Result<Vec<u8>, Refusal>;
-    /// The table's trees, or the first of 15, 13, 16 and, where it is to be printed, 17.
+    /// The table's trees, or the first of 15, 20, 21, 13, 16 and, where it is to be printed, 17; or 22.
     fn check(&self, table: &[u8], printing: bool) -> Result<Vec<Tree>, Refusal>;
     /// All trees' text at this width.
     fn lay_out(&self, trees: &[Tree], width: usize) -> Vec<u8>;

@@ -4,7 +4,7 @@
 use std::str::from_utf8;
 
 use crate::answer::Side;
-use crate::document::lex::{self, literal_len};
+use crate::document::lex::{self, literal_len, refused_at};
 use crate::document::{calls, layout, read, table};
 use crate::drive::Feeder;
 use crate::error::Error;
@@ -59,7 +59,7 @@ fn tokens(text: &str, shift: usize) -> Lexed {
     let mut lexer = match Lexer::new(0, text) {
         Ok(lexer) => lexer,
         Err(error) => {
-            found.refusal = Some(refused(error, shift));
+            found.refusal = Some(refused(error, text, shift));
             return found;
         }
     };
@@ -74,15 +74,16 @@ fn tokens(text: &str, shift: usize) -> Lexed {
         };
         found.tokens.push(Token { kind, start: at + shift, len });
         if let Err(error) = lexer.next() {
-            found.refusal = Some(refused(error, shift));
+            found.refusal = Some(refused(error, text, shift));
             break;
         }
     }
     found
 }
 
-/// Document 01's number for an error of the crate's lexer; std's words tell 5, 6 and 7 apart.
-fn refused(error: Error, shift: usize) -> Refusal {
+/// Document 01's number for an error of the crate's lexer; std's words tell 5, 6 and 7 apart. The crate points at a literal's start,
+/// and `from_str_radix`, which it calls, tells the digit.
+fn refused(error: Error, text: &str, shift: usize) -> Refusal {
     let Error::ParseError { msg, span } = error else {
         panic!("the lexer gave an error that is none of its own: {error:?}")
     };
@@ -95,7 +96,8 @@ fn refused(error: Error, shift: usize) -> Refusal {
         other if other.starts_with("Unexpected character") => 3,
         other => panic!("the lexer gave a message without a number: {other}"),
     };
-    refusal(number, span.from.offset + shift)
+    let at = span.from.offset;
+    refusal(number, at + refused_at(&text.as_bytes()[at..], number) + shift)
 }
 
 /// A symbol is what the crate reads as one, whole.

@@ -24,7 +24,7 @@ fn lexing() -> Vec<Case> {
         (0, "", "end"),
         (0, "(;)", "refusal 4 at 0"),
         (0, "(;(;;);)x", "s 8 1\nend"),
-        (0, "12ab", "refusal 6 at 0"),
+        (0, "12ab", "refusal 6 at 2"),
         (0, "-", "refusal 5 at 0"),
         (0, "12xyz", "i 0 2 12\ns 2 3\nend"),
         (0, "1_0-2", "i 0 3 10\ni 3 2 -2\nend"),
@@ -33,11 +33,14 @@ fn lexing() -> Vec<Case> {
         (0, "-0xffffffffffffffffffffffffffffffff", "i 0 35 1\nend"),
         (0, "a\x0cb", "s 0 1\nrefusal 3 at 1"),
         (0, "340282366920938463463374607431768211455", "i 0 39 -1\nend"),
-        (0, "340282366920938463463374607431768211456", "refusal 7 at 0"),
+        (0, "340282366920938463463374607431768211456", "refusal 7 at 38"),
         (0, "0b", "refusal 5 at 0"),
         (0, "0xg", "refusal 5 at 0"),
         (0, "00x1", "i 0 2 0\ns 2 2\nend"),
-        (0, "0_b1", "refusal 6 at 0"),
+        (0, "0_b1", "refusal 6 at 2"),
+        (0, "-0b1_02f", "refusal 6 at 6"),
+        (0, " -0x1_ffffffffffffffffffffffffffffffff_fg", "refusal 7 at 37"),
+        (0, "-a", "refusal 6 at 1"),
         (0, "-0", "i 0 2 0\nend"),
         (0, "\x0b@(", "s 0 1\n@ 1\n( 2\nend"),
         (3, "a @ b", "s 4 1\nend"),
@@ -75,13 +78,13 @@ fn calls() -> Vec<Case> {
             "feed 1 more\nfeed 0 ( 0\nfeed 1 more\nclose s 1 1\nfeed 0 refusal 19 at 2\nclose end\nfeed 0 refusal 19 at 2\nclose end",
         ),
         case('C', 4, 1, "a)", "feed 1 s 0 1\nfeed 1 ) 1\nclose end\nfeed 0 refusal 19 at 2\nclose end"),
-        case('C', 9, 1, " 12ab ", "feed 5 refusal 6 at 1\nfeed 0 refusal 6 at 1\nclose refusal 6 at 1"),
+        case('C', 9, 1, " 12ab ", "feed 5 refusal 6 at 3\nfeed 0 refusal 6 at 3\nclose refusal 6 at 3"),
         case(
             'c',
             3,
             9,
             " 12ab",
-            "feed 3 more\nfeed 2 more\nclose refusal 6 at 1\nfeed 0 refusal 6 at 1\nclose refusal 6 at 1",
+            "feed 3 more\nfeed 2 more\nclose refusal 6 at 3\nfeed 0 refusal 6 at 3\nclose refusal 6 at 3",
         ),
         case(
             'C',
@@ -112,7 +115,10 @@ fn reading() -> Vec<Case> {
         (9, "((a)".into(), "refusal 10 at 0\nkept"),
         (9, "a)".into(), "refusal 9 at 1\nkept"),
         (9, "x @ @".into(), "refusal 11 at 4\nkept"),
-        (9, "x @ 12ab".into(), "refusal 6 at 4\nkept"),
+        (9, "x @ 12ab".into(), "refusal 6 at 6\nkept"),
+        (9, "(a 0b1_2)".into(), "refusal 6 at 7\nkept"),
+        (9, "(-0x100000000000000000000000000000000)".into(), "refusal 7 at 36\nkept"),
+        (9, "(-0x80000000000000000000000000000000)".into(), "refusal 8 at 1\nkept"),
         (9, "x @ (;".into(), "refusal 4 at 4\nkept"),
         (9, "(x @ ;c".into(), "refusal 12 at 7\nkept"),
         (9, "(x @ 1".into(), "refusal 10 at 0\nkept"),
@@ -122,7 +128,8 @@ fn reading() -> Vec<Case> {
         (9, nest("(", 64, "a\x0c@", ")"), "refusal 3 at 65\nkept"),
         (9, nest("(", 64, "a @ (", ""), "refusal 13 at 64\nkept"),
     ];
-    let mut all: Vec<Case> = cases.into_iter().map(|(a, source, lines)| case('R', a, 0, source, lines)).collect();
+    let mut all: Vec<Case> =
+        cases.into_iter().map(|(a, source, lines)| case('R', a, 0, source, lines)).collect();
     // 64 lists, each but the innermost with one item
     let lines = format!("table 640\n{}0a000000040000000000\nkept", "0a000000040001000000".repeat(63));
     all.push(case('R', 640, 0, nest("(", 64, "", ")"), lines));
@@ -144,14 +151,18 @@ fn printing() -> Vec<Case> {
             "(rule 1 (f x @ (g _)) 0x10)",
             "text 26\n2872756c65203120286620782040202867205f2929203136290a",
         ),
-        w(100, "(a 12ab)", "refusal 6 at 3"),
+        w(100, "(a 12ab)", "refusal 6 at 5"),
         w(100, "0x80000000000000000000000000000000", "refusal 17 at 0"),
         p(9, 2, "\x07\0\0\0\x01\0a", "print 2\n610a\nkept"),
         p(9, 1, "\x07\0\0\0\x01\0a", "refusal 18 at 2\nkept"),
         p(9, 9, "", "print 0\n\nkept"),
         p(9, 9, "\x06\0\0\0\x01\0", "refusal 16 at 0\nkept"),
         p(9, 9, "\x05\0\0\0\x01\0", "refusal 15 at 0\nkept"),
-        p(9, 9, "\x07\0\0\0\x03\0x", "refusal 15 at 7\nkept"),
+        p(9, 9, "\x07\0\0\0\x03\0x", "refusal 22 at 7\nkept"),
+        p(9, 9, "\x07\0\0\0\x03\0x\x07", "refusal 15 at 7\nkept"),
+        p(9, 9, "\x06\0\0\0\x05\0", "refusal 20 at 0\nkept"),
+        p(9, 9, "\x05\0\0\0\x05\0", "refusal 15 at 0\nkept"),
+        p(9, 9, "\x0b\0\0\0\x04\0\0\0\0\0\0", "refusal 21 at 0\nkept"),
         p(9, 9, "\x07\0\0\0\x03\0x\x07\0\0\0\x01\0;", "refusal 16 at 7\nkept"),
     ]
 }
@@ -169,8 +180,22 @@ fn checking() -> Vec<Case> {
         k(0, &b"\x0a\0\0\0\x04\0\x01\0\0\0".repeat(65), "refusal 13 at 640"),
         k(1, b"\x06\0\0\0\x01\0", "refusal 16 at 0"),
         k(0, b"\x05\0\0\0\x01\0", "refusal 15 at 0"),
-        k(1, b"\x07\0\0\0\x03\0x", "refusal 15 at 7"),
-        k(0, b"\x07\0\0\0\x05\0x", "refusal 15 at 0"),
+        k(1, b"\x07\0\0\0\x03\0x", "refusal 22 at 7"),
+        k(0, b"\x07\0\0\0\x05\0x", "refusal 20 at 0"),
+        k(0, b"\x08\0\0\0\x05\0x", "refusal 15 at 0"),
+        k(1, b"\x07\0\0\0\x02\0x", "refusal 21 at 0"),
+        // at depth 64: 20 and 21 before 13, and 22 where nothing is left
+        k(
+            0,
+            &[&b"\x07\0\0\0\x03\0n".repeat(64)[..], b"\x0b\0\0\0\x04\0\0\0\0\0\0"].concat(),
+            "refusal 21 at 448",
+        ),
+        k(
+            0,
+            &[&b"\x07\0\0\0\x03\0n".repeat(64)[..], b"\x0a\0\0\0\x05\0\0\0\0\0"].concat(),
+            "refusal 20 at 448",
+        ),
+        k(0, &b"\x07\0\0\0\x03\0n".repeat(64), "refusal 22 at 448"),
     ]
 }
 

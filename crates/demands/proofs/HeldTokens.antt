@@ -16,7 +16,7 @@ use Rattle.classes.specs.declared.Class.the-variants.{Space, LineEnd, Semicolon
 use Rattle.classes.specs.Classes.{classOf, symbolOther, digitOf, literalByte}
 use Rattle.wide.specs.Value.{Integer, is as isInteger, none as noInteger, integerOf, val, split, grown}
 use Rattle.lexer.specs.declared.literal.Reading.{Reading}
-use Rattle.lexer.specs.declared.literal.Reading.the-variants.{Empty, Foreign, Over, Number}
+use Rattle.lexer.specs.declared.literal.Reading.the-variants.{Empty, Bad, Number}
 use Rattle.lexer.specs.Tokens.{token, past, symbol, Answer, end, is}
 use Rattle.lexer.specs.Literals.{taken, grow, reading, literalEnd, radixOf, signed, concluded, digitsIn, unsignedIn}
 use Rattle.lexer.specs.Lexing.{symbolEnd}
@@ -128,22 +128,21 @@ module _ (s : List ℕ) (st : ℕ) (minus : Bool) where
   pub concluded-ends : (p : ℕ) (x : Reading) → st ≤ p → Ends p (concluded minus st p x)
   unfolding Ends concluded
   concluded-ends p Empty h = tt
-  concluded-ends p Foreign h = tt
-  concluded-ends p Over h = tt
+  concluded-ends p (Bad d) h = tt
   concluded-ends p (Number n) h = signed-ends p (integerOf minus (val n)) h
 
   abbrev literalAt : ℕ → Reading → List ℕ → ℕ → Answer
-  literalAt r x l p = concluded minus st (literalEnd l p) (reading r x l)
+  literalAt r x l p = concluded minus st (literalEnd l p) (reading r x l p)
 
   digits-on : (t : Bool) (r : ℕ) (x y : Reading) (b : ℕ) (l : List ℕ) (p : ℕ) → st ≤ p → At s p (b ∷ l) → Law s st (Digits st minus r y) l (literalAt r y l)
-      → After s p (concluded minus st (cond t (literalEnd l (suc p)) p) (cond t (reading r y l) x)) (over (cond t (ok (Go (Digits st minus r y))) (endedBy (concluded minus st p x))) p b l)
+      → After s p (concluded minus st (cond t (literalEnd l (suc p)) p) (cond t (reading r y l (suc p)) x)) (over (cond t (ok (Go (Digits st minus r y))) (endedBy (concluded minus st p x))) p b l)
   digits-on true r x y b l p h e ih = weaken s p (literalAt r y l (suc p)) _ (ih (suc p) (omega arith) (next s p b l e))
   digits-on false r x y b l p h e ih = stays s p (concluded minus st p x) b l (concluded-ends p x h) e
 
   digits : (r : ℕ) (x : Reading) (l : List ℕ) → Law s st (Digits st minus r x) l (literalAt r x l)
   unfolding events turn closing literalEnd reading
   digits r x [] p h e = lasts s p (concluded minus st p x) (concluded-ends p x h) e
-  digits r x (b ∷ l) p h e = digits-on (literalByte b) r x (grow r x b) b l p h e (digits r (grow r x b) l)
+  digits r x (b ∷ l) p h e = digits-on (literalByte b) r x (grow r x b p) b l p h e (digits r (grow r x b p) l)
 
   -- a leading 0 at p, and what comes after it
   zero-on : (t : Bool) (r b : ℕ) (l : List ℕ) (p : ℕ) → st ≤ p → At s (suc p) (b ∷ l)
@@ -158,13 +157,13 @@ module _ (s : List ℕ) (st : ℕ) (minus : Bool) where
   leading (b ∷ l) p h e = zero-on (eqb (radixOf 48 b) 10) (radixOf 48 b) b l p h e
 
   begins-on : (t : Bool) (b : ℕ) (l : List ℕ) (p : ℕ) → st ≤ p → At s (suc p) l → literalByte b ≡ true → eqb b 48 ≡ t
-      → After s (suc p) (unsignedIn minus st (b ∷ l) p) (events (cond t (Zero st minus) (Digits st minus 10 (grow 10 Empty b))) (suc p) l)
+      → After s (suc p) (unsignedIn minus st (b ∷ l) p) (events (cond t (Zero st minus) (Digits st minus 10 (grow 10 Empty b p))) (suc p) l)
   unfolding unsignedIn radixOf reading literalEnd
   begins-on true b l p h e d f = rw (eqb-true b 48 f) (leading l p h e)
-  begins-on false b l p h e d f = rw (f, d) (digits 10 (grow 10 Empty b) l (suc p) (omega arith) e)
+  begins-on false b l p h e d f = rw (f, d) (digits 10 (grow 10 Empty b p) l (suc p) (omega arith) e)
 
   -- from a literal's first digit at p on
-  pub begins : (b : ℕ) (l : List ℕ) (p : ℕ) → st ≤ p → At s (suc p) l → literalByte b ≡ true → After s (suc p) (unsignedIn minus st (b ∷ l) p) (events (begun st minus b) (suc p) l)
+  pub begins : (b : ℕ) (l : List ℕ) (p : ℕ) → st ≤ p → At s (suc p) l → literalByte b ≡ true → After s (suc p) (unsignedIn minus st (b ∷ l) p) (events (begun st minus p b) (suc p) l)
   begins b l p h e d = begins-on (eqb b 48) b l p h e d refl
 
 sign-none : (s : List ℕ) (st b : ℕ) (l : List ℕ) (p : ℕ) → literalByte b ≡ false → (t : Bool) → eqb b 48 ≡ t → After s p (unsignedIn true st (b ∷ l) p) (ends (refused noDigits st))
@@ -173,7 +172,7 @@ sign-none s st b l p d true f = let z : _≡_ {A = Bool} true false = rw (eqb-tr
 sign-none s st b l p d false f = rw (f, d) refl
 
 sign-on : (s : List ℕ) (st : ℕ) (t : Bool) (b : ℕ) (l : List ℕ) (p : ℕ) → st ≤ p → At s p (b ∷ l) → literalByte b ≡ t
-    → After s p (unsignedIn true st (b ∷ l) p) (over (cond t (ok (Go (begun st true b))) (endedBy (concluded true st p Empty))) p b l)
+    → After s p (unsignedIn true st (b ∷ l) p) (over (cond t (ok (Go (begun st true p b))) (endedBy (concluded true st p Empty))) p b l)
 unfolding concluded
 sign-on s st true b l p h e d = weaken s p _ _ (begins s st true b l p h (next s p b l e) d)
 sign-on s st false b l p h e d = sign-none s st b l p d (eqb b 48) refl

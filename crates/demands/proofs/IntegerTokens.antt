@@ -48,26 +48,26 @@ decimal =
     let r : (b : ℕ) → classOf b ≡ Digit → literalByte b ≡ true → radixOf 48 b ≡ 10 → Decimal b = λ b x y z. record { class = x; counts = y; plain = z } in
     ten (λ d. Decimal (48 + d)) (r 48 refl refl refl) (r 49 refl refl refl) (r 50 refl refl refl) (r 51 refl refl refl) (r 52 refl refl refl) (r 53 refl refl refl) (r 54 refl refl refl) (r 55 refl refl refl) (r 56 refl refl refl) (r 57 refl refl refl)
 
--- what a digit's byte counts
-grow-is : (x : Reading) (d : ℕ) → d < 10 → grow 10 x (48 + d) ≡ digit 10 x d
+-- what a digit's byte counts, wherever it stands
+grow-is : (x : Reading) (i d : ℕ) → d < 10 → grow 10 x (48 + d) i ≡ digit 10 x d i
 unfolding grow digitOf
-grow-is x = ten (λ d. grow 10 x (48 + d) ≡ digit 10 x d) refl refl refl refl refl refl refl refl refl refl
+grow-is x i = ten (λ d. grow 10 x (48 + d) i ≡ digit 10 x d i) refl refl refl refl refl refl refl refl refl refl
 
-taken-is : (m d : ℕ) → d < 10 → m * 10 + d < 2 ^ 128 → taken 10 m d ≡ Number (split (m * 10 + d))
+taken-is : (m d i : ℕ) → d < 10 → m * 10 + d < 2 ^ 128 → taken 10 m d i ≡ Number (split (m * 10 + d))
 unfolding taken grown
-taken-is m d h l = rw (lt-leb 10 d h, lt-ltb (m * 10 + d) (2 ^ 128) l) refl
+taken-is m d i h l = rw (lt-leb 10 d h, lt-ltb (m * 10 + d) (2 ^ 128) l) refl
 
-abbrev grows : Reading → List ℕ → Reading
-grows x [] = x
-grows x (b ∷ ds) = grows (grow 10 x b) ds
+abbrev grows : Reading → List ℕ → ℕ → Reading
+grows x [] i = x
+grows x (b ∷ ds) i = grows (grow 10 x b i) ds (suc i)
 
 abbrev All : List ℕ → Type 0
 All [] = Unit {0}
 All (b ∷ ds) = Decimal b × All ds
 
-grows-last : (x : Reading) (ds : List ℕ) (b : ℕ) → grows x (ds ++ (b ∷ [])) ≡ grow 10 (grows x ds) b
-grows-last x [] b = refl
-grows-last x (c ∷ ds) b = grows-last (grow 10 x c) ds b
+grows-last : (x : Reading) (ds : List ℕ) (b i : ℕ) → grows x (ds ++ (b ∷ [])) i ≡ grow 10 (grows x ds i) b (length ds + i)
+grows-last x [] b i = ap (grow 10 x b) (omega arith)
+grows-last x (c ∷ ds) b i = grows-last (grow 10 x c i) ds b (suc i) ∙ ap (grow 10 (grows (grow 10 x c i) ds (suc i)) b) (omega arith)
 
 all-last : (ds : List ℕ) (b : ℕ) → All ds → Decimal b → All (ds ++ (b ∷ []))
 all-last [] b h k = (k, tt)
@@ -77,7 +77,7 @@ all-last (c ∷ ds) b h k = (h .0, all-last ds b (h .1) k)
 record Spells (n : ℕ) (ds : List ℕ) : Type 0 where
   all : All ds
   some : 1 ≤ length ds
-  counts : grows Empty ds ≡ Number (split n)
+  counts : (i : ℕ) → grows Empty ds i ≡ Number (split n)
 
 tenth : (N n : ℕ) → n < N → n / 10 < N
 tenth N n h = omega arith
@@ -88,7 +88,7 @@ spells-one n h =
     record {
       all = (decimal n h, tt);
       some = omega arith;
-      counts = grow-is Empty n h ∙ ten (λ d. taken 10 0 d ≡ Number (split d)) refl refl refl refl refl refl refl refl refl refl n h;
+      counts = λ i. grow-is Empty i n h ∙ ten (λ d. taken 10 0 d i ≡ Number (split d)) refl refl refl refl refl refl refl refl refl refl n h;
     }
 
 spells-more : (n : ℕ) (ds : List ℕ) → n < 2 ^ 128 → Spells (n / 10) ds → Spells n (ds ++ ((48 + n % 10) ∷ []))
@@ -98,12 +98,12 @@ spells-more n ds l s =
     record {
       all = all-last ds (48 + n % 10) (s .all) (decimal (n % 10) h);
       some = omega (arith, length-append ds ((48 + n % 10) ∷ []));
-      counts =
-          grows-last Empty ds (48 + n % 10)
-          ∙ ap (λ (x : Reading). grow 10 x (48 + n % 10)) (s .counts)
-          ∙ grow-is (Number (split (n / 10))) (n % 10) h
-          ∙ ap (λ (m : ℕ). taken 10 m (n % 10)) (split-val (n / 10))
-          ∙ taken-is (n / 10) (n % 10) h (subst (λ (x : ℕ). x < 2 ^ 128) (sym e) l)
+      counts = λ i.
+          grows-last Empty ds (48 + n % 10) i
+          ∙ ap (λ (x : Reading). grow 10 x (48 + n % 10) (length ds + i)) (s .counts i)
+          ∙ grow-is (Number (split (n / 10))) (length ds + i) (n % 10) h
+          ∙ ap (λ (m : ℕ). taken 10 m (n % 10) (length ds + i)) (split-val (n / 10))
+          ∙ taken-is (n / 10) (n % 10) (length ds + i) h (subst (λ (x : ℕ). x < 2 ^ 128) (sym e) l)
           ∙ ap (λ (m : ℕ). Number (split m)) e;
     }
 
@@ -129,10 +129,10 @@ radix-ten b c false e h = rw e refl
 
 -- digits before a byte c that ends a literal
 module _ (c : ℕ) (r : List ℕ) (e : literalByte c ≡ false) (f : radixOf 48 c ≡ 10) where
-  read-all : (ds : List ℕ) (x : Reading) → All ds → reading 10 x (ds ++ (c ∷ r)) ≡ grows x ds
+  read-all : (ds : List ℕ) (x : Reading) (p : ℕ) → All ds → reading 10 x (ds ++ (c ∷ r)) p ≡ grows x ds p
   unfolding reading
-  read-all [] x h = rw e refl
-  read-all (b ∷ ds) x h = rw (h .0 .counts) (read-all ds (grow 10 x b) (h .1))
+  read-all [] x p h = rw e refl
+  read-all (b ∷ ds) x p h = rw (h .0 .counts) (read-all ds (grow 10 x b p) (suc p) (h .1))
 
   end-all : (ds : List ℕ) (p : ℕ) → All ds → literalEnd (ds ++ (c ∷ r)) p ≡ p + length ds
   unfolding literalEnd
@@ -147,7 +147,7 @@ module _ (c : ℕ) (r : List ℕ) (e : literalByte c ≡ false) (f : radixOf 48 
   unfolding unsignedIn concluded
   unsigned minus st p n [] s = absurd (omega (arith, s .some))
   unsigned minus st p n (b ∷ ds) s =
-      rw (second b ds (s .all .1), end-all (b ∷ ds) p (s .all), read-all (b ∷ ds) Empty (s .all), s .counts, split-val n) refl
+      rw (second b ds (s .all .1), end-all (b ∷ ds) p (s .all), read-all (b ∷ ds) Empty p (s .all), s .counts p, split-val n) refl
 
   leads : (n p : ℕ) (ds : List ℕ) → Spells n ds → lexIn 0 Between (ds ++ (c ∷ r)) p ≡ unsignedIn false p (ds ++ (c ∷ r)) p
   unfolding lexIn skip

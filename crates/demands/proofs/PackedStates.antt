@@ -1,20 +1,20 @@
 -- THEOREM packed-states: every state that a feeder can be in comes back from its words, so that the words a host keeps mean the state. Assumes nothing.
 use mathlib.Core.Bool.{Bool, true, false, _||_}
 use mathlib.Core.List.{List, [], _∷_}
-use Prim.Native.Nat.{ℕ, suc, _<_}
+use Prim.Native.Nat.{ℕ, suc, _+_, _*_, _^_, _<_}
 use native.Mathlib.Omega.{arith}
-use lib.Dec.{eqb, leb}
+use lib.Dec.{eqb, leb, ltb}
 use Rattle.lists.proofs.Choice.{pick}
 use Rattle.refusals.specs.Numbers.{sourceLimit}
 use Rattle.refusals.specs.Result.{Result, ok, refused}
 use Rattle.classes.specs.declared.Class.{Class}
 use Rattle.classes.specs.declared.Class.the-variants.{Space, LineEnd, Semicolon, LParen, RParen, AtSign, FormFeed, Minus, Digit, Other}
-use Rattle.classes.specs.Classes.{classOf, lineEnd, semicolon, rparen, symbolOther, literalByte}
-use Rattle.wide.specs.Value.{split, val, Integer, is as integer, none as noInteger, integerOf}
+use Rattle.classes.specs.Classes.{classOf, lineEnd, semicolon, rparen, symbolOther, digitOf, literalByte}
+use Rattle.wide.specs.Value.{split, val, grown, Integer, is as integer, none as noInteger, integerOf}
 use Rattle.lexer.specs.declared.literal.Reading.{Reading}
-use Rattle.lexer.specs.declared.literal.Reading.the-variants.{Empty, Foreign, Over, Number}
+use Rattle.lexer.specs.declared.literal.Reading.the-variants.{Empty, Bad, Number}
 use Rattle.lexer.specs.Tokens.{Answer, end, is}
-use Rattle.lexer.specs.Literals.{radixOf, signed, concluded}
+use Rattle.lexer.specs.Literals.{grew, taken, digit, grow, radixOf, signed, concluded}
 use Rattle.feeder.specs.declared.Half.{Half}
 use Rattle.feeder.specs.declared.Half.the-variants.{Clear, Semi, Paren}
 use Rattle.feeder.specs.declared.Mode.{Mode}
@@ -24,7 +24,7 @@ use Rattle.feeder.specs.declared.Phase.the-variants.{Live, Closed, Refused}
 use Rattle.feeder.specs.declared.State.{State}
 use Rattle.feeder.specs.Machine.{closing, Turn, Go, Stay, Take, endedBy, begun, inBlank, inBlock, inDigits, turn, step}
 use Rattle.feeder.specs.Feeding.{stepped, feedFrom, feedIn, feedOf, shut, closeIn, closeOf}
-use Rattle.tulbazhik_feed.proofs.Packed.{ModeFits, PhaseFits, back}
+use Rattle.tulbazhik_feed.proofs.Packed.{ReadingFits, ModeFits, PhaseFits, back}
 use Rattle.demands.specs.DriverWords.{PackedStates}
 use Rattle.demands.specs.Rules.{Reached, fresh, feeds, closes}
 
@@ -46,12 +46,28 @@ unfolding AnswerFits
 signed-fits st e (integer z) = tt
 signed-fits st e noInteger = omega arith
 
-concluded-fits : (minus : Bool) (st e : ℕ) (x : Reading) → AnswerFits (concluded minus st e x)
+concluded-fits : (minus : Bool) (st e : ℕ) (x : Reading) → ReadingFits x → AnswerFits (concluded minus st e x)
 unfolding AnswerFits concluded
-concluded-fits minus st e Empty = omega arith
-concluded-fits minus st e Foreign = omega arith
-concluded-fits minus st e Over = omega arith
-concluded-fits minus st e (Number n) = signed-fits st e (integerOf minus (val n))
+concluded-fits minus st e Empty h = omega arith
+concluded-fits minus st e (Bad d) h = h
+concluded-fits minus st e (Number n) h = signed-fits st e (integerOf minus (val n))
+
+grown-fits : (v p : ℕ) → ReadingFits (grew (grown v) p)
+unfolding grown
+grown-fits v p = pick (λ g. ReadingFits (grew g p)) (ltb v (2 ^ 128)) (λ _. tt) (λ _. omega arith)
+
+taken-fits : (r n d p : ℕ) → ReadingFits (taken r n d p)
+unfolding taken
+taken-fits r n d p = pick ReadingFits (leb r d) (λ _. omega arith) (λ _. grown-fits (n * r + d) p)
+
+grow-fits : (r : ℕ) (x : Reading) (b p : ℕ) → ReadingFits x → ReadingFits (grow r x b p)
+unfolding grow
+grow-fits r x b p h = pick ReadingFits (eqb b 95) (λ _. h) (λ _. by x h)
+  where
+    by : (x : Reading) → ReadingFits x → ReadingFits (digit r x (digitOf b) p)
+    by Empty h = taken-fits r 0 (digitOf b) p
+    by (Bad q) h = h
+    by (Number n) h = taken-fits r (val n) (digitOf b) p
 
 ends-fits : (a : Answer) → AnswerFits a → TurnFits (endedBy a)
 unfolding AnswerFits TurnFits
@@ -68,8 +84,8 @@ radix-fits b c =
     (λ _. pick (λ (r : ℕ). r < 256) (eqb c 98 || eqb c 66) (λ _. omega arith) (λ _. omega arith))))
     (λ _. omega arith)
 
-begun-fits : (st b : ℕ) (minus : Bool) → ModeFits (begun st minus b)
-begun-fits st b minus = pick ModeFits (eqb b 48) (λ _. tt) (λ _. omega arith)
+begun-fits : (st p b : ℕ) (minus : Bool) → ModeFits (begun st minus p b)
+begun-fits st p b minus = pick ModeFits (eqb b 48) (λ _. tt) (λ _. (omega arith, grow-fits 10 Empty b p tt))
 
 blank-fits : (c : Class) (p b : ℕ) → TurnFits (inBlank c p b)
 unfolding TurnFits
@@ -81,7 +97,7 @@ blank-fits RParen p b = tt
 blank-fits AtSign p b = tt
 blank-fits FormFeed p b = omega arith
 blank-fits Minus p b = tt
-blank-fits Digit p b = begun-fits p b false
+blank-fits Digit p b = begun-fits p p b false
 blank-fits Other p b = tt
 
 block-fits : (c : Class) (st d : ℕ) (h : Half) → ModeFits (inBlock c st d h)
@@ -89,9 +105,9 @@ block-fits c st d Clear = tt
 block-fits c st d Semi = pick ModeFits (rparen c) (λ _. pick ModeFits (leb d 1) (λ _. tt) (λ _. tt)) (λ _. tt)
 block-fits c st d Paren = pick ModeFits (semicolon c) (λ _. tt) (λ _. tt)
 
-digits-fits : (st r p b : ℕ) (minus : Bool) (x : Reading) → r < 256 → TurnFits (inDigits st minus r x p b)
+digits-fits : (st r p b : ℕ) (minus : Bool) (x : Reading) → r < 256 → ReadingFits x → TurnFits (inDigits st minus r x p b)
 unfolding TurnFits
-digits-fits st r p b minus x h = pick TurnFits (literalByte b) (λ _. h) (λ _. ends-fits (concluded minus st p x) (concluded-fits minus st p x))
+digits-fits st r p b minus x h f = pick TurnFits (literalByte b) (λ _. (h, grow-fits r x b p f)) (λ _. ends-fits (concluded minus st p x) (concluded-fits minus st p x f))
 
 turn-fits : (m : Mode) (p b : ℕ) → ModeFits m → TurnFits (turn m p b)
 unfolding turn TurnFits
@@ -99,11 +115,11 @@ turn-fits Blank p b h = blank-fits (classOf b) p b
 turn-fits Line p b h = pick ModeFits (lineEnd (classOf b)) (λ _. tt) (λ _. tt)
 turn-fits (Opener st) p b h = pick TurnFits (semicolon (classOf b)) (λ _. tt) (λ _. tt)
 turn-fits (Symbol st) p b h = pick TurnFits (symbolOther (classOf b)) (λ _. tt) (λ _. tt)
-turn-fits (Sign st) p b h = pick TurnFits (literalByte b) (λ _. begun-fits st b true) (λ _. ends-fits (concluded true st p Empty) (concluded-fits true st p Empty))
+turn-fits (Sign st) p b h = pick TurnFits (literalByte b) (λ _. begun-fits st p b true) (λ _. ends-fits (concluded true st p Empty) (concluded-fits true st p Empty tt))
 turn-fits (Block st d k) p b h = block-fits (classOf b) st d k
 turn-fits (Zero st minus) p b h =
-    pick TurnFits (eqb (radixOf 48 b) 10) (λ _. digits-fits st 10 p b minus (Number (split 0)) (omega arith)) (λ _. radix-fits 48 b)
-turn-fits (Digits st minus r x) p b h = digits-fits st r p b minus x h
+    pick TurnFits (eqb (radixOf 48 b) 10) (λ _. digits-fits st 10 p b minus (Number (split 0)) (omega arith) tt) (λ _. (radix-fits 48 b, tt))
+turn-fits (Digits st minus r x) p b h = digits-fits st r p b minus x (h .0) (h .1)
 
 step-fits : (m : Mode) (p b : ℕ) → ModeFits m → TurnFits (step m p b)
 unfolding step TurnFits
@@ -139,19 +155,19 @@ shut-fits (ok end) p h = tt
 shut-fits (ok (is t)) p h = tt
 shut-fits (refused n a) p h = h
 
-closing-fits : (m : Mode) (p : ℕ) → AnswerFits (closing m p)
+closing-fits : (m : Mode) (p : ℕ) → ModeFits m → AnswerFits (closing m p)
 unfolding AnswerFits closing
-closing-fits Blank p = tt
-closing-fits Line p = tt
-closing-fits (Opener st) p = tt
-closing-fits (Symbol st) p = tt
-closing-fits (Sign st) p = concluded-fits true st p Empty
-closing-fits (Block st d h) p = omega arith
-closing-fits (Zero st minus) p = concluded-fits minus st p (Number (split 0))
-closing-fits (Digits st minus r x) p = concluded-fits minus st p x
+closing-fits Blank p h = tt
+closing-fits Line p h = tt
+closing-fits (Opener st) p h = tt
+closing-fits (Symbol st) p h = tt
+closing-fits (Sign st) p h = concluded-fits true st p Empty tt
+closing-fits (Block st d k) p h = omega arith
+closing-fits (Zero st minus) p h = concluded-fits minus st p (Number (split 0)) tt
+closing-fits (Digits st minus r x) p h = concluded-fits minus st p x (h .1)
 
 close-in : (f : Phase) (p : ℕ) → PhaseFits f → PhaseFits (closeIn f p .state .phase)
-close-in (Live m) p h = shut-fits (closing m p) p (closing-fits m p)
+close-in (Live m) p h = shut-fits (closing m p) p (closing-fits m p h)
 close-in Closed p h = tt
 close-in (Refused r) p h = h
 

@@ -53,7 +53,7 @@ leaves-ends p (ok end) h = absurd h
 leaves-ends p (ok (is t)) h = h
 leaves-ends p (refused n a) h = tt
 
-leaves-begun : (st p b : ℕ) (minus : Bool) → st ≤ p → Sound (begun st minus b) (suc p)
+leaves-begun : (st p b : ℕ) (minus : Bool) → st ≤ p → Sound (begun st minus p b) (suc p)
 leaves-begun st p b minus h = pick (λ k. Sound k (suc p)) (eqb b 48) (λ _. omega arith) (λ _. omega arith)
 
 leaves-blank : (c : Class) (p b : ℕ) → Leaves p (inBlank c p b)

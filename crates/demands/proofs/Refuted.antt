@@ -20,7 +20,7 @@ use Rattle.wide.specs.Value.{val, value, valueOf, grown, is as integer, integer
 use Rattle.wide.specs.Text.{digits, integerText}
 use Rattle.wide.specs.Bytes.{le, number, numberIn, wideBytes, wideIn}
 use Rattle.lexer.specs.declared.literal.Reading.{Reading}
-use Rattle.lexer.specs.declared.literal.Reading.the-variants.{Empty, Foreign, Over as TooMuch, Number}
+use Rattle.lexer.specs.declared.literal.Reading.the-variants.{Empty, Bad, Number}
 use Rattle.lexer.specs.Tokens.{Answer, end, is, token, int, symbol}
 use Rattle.lexer.specs.Literals.{taken, grow, reading, literalEnd, radixOf, concluded, unsignedIn}
 use Rattle.lexer.specs.Lexing.{skip, symbolEnd, lexIn, nextToken}
@@ -38,8 +38,17 @@ highOf Over = 0
 abbrev lowOf : Reading → ℕ
 lowOf (Number n) = n .lo
 lowOf Empty = 0
-lowOf Foreign = 0
-lowOf TooMuch = 0
+lowOf (Bad r) = 0
+
+abbrev numberOf : Reading → ℕ
+numberOf (Bad r) = r .number
+numberOf Empty = 0
+numberOf (Number n) = 0
+
+abbrev digitAt : Reading → ℕ
+digitAt (Bad r) = r .place
+digitAt Empty = 0
+digitAt (Number n) = 0
 
 abbrev startOf : Answer → ℕ
 startOf (ok (is t)) = t .start
@@ -246,23 +255,31 @@ wide-cut : Not (pos 7 ≡ wideIn (7 ∷ []) 0)
 unfolding number
 wide-cut e = let z : _≡_ {A = ℕ} 7 0 = cc in omega arith
 
--- lexer::literal::grow: an underscore counts as 0; over before foreign
-grow-underscore : Not (Number (record { hi = 0; lo = 0 }) ≡ grow 10 (Number (record { hi = 0; lo = 1 })) 95)
+-- lexer::literal::grow: an underscore counts as 0; over before foreign; the place of the last bad digit
+grow-underscore : Not (Number (record { hi = 0; lo = 0 }) ≡ grow 10 (Number (record { hi = 0; lo = 1 })) 95 1)
 unfolding grow
 grow-underscore e = let z : _≡_ {A = ℕ} 0 1 = ap lowOf e in omega arith
 
-grow-order : Not (TooMuch ≡ grow 10 (Number (record { hi = 2 ^ 64 - 1; lo = 2 ^ 64 - 1 })) 97)
+grow-order : Not (Bad (record { number = 7; place = 39 }) ≡ grow 10 (Number (record { hi = 2 ^ 64 - 1; lo = 2 ^ 64 - 1 })) 97 39)
 unfolding grow taken digitOf
-grow-order e = let z : _≡_ {A = ℕ} 0 1 = cc in omega arith
+grow-order e = let z : _≡_ {A = ℕ} 7 6 = ap numberOf e in omega arith
 
--- lexer::literal::digits_from: `12ab` ends before `a`; a fault is forgotten
+grow-last : Not (Bad (record { number = 6; place = 3 }) ≡ grow 10 (Bad (record { number = 6; place = 2 })) 98 3)
+unfolding grow digitOf
+grow-last e = let z : _≡_ {A = ℕ} 3 2 = ap digitAt e in omega arith
+
+-- lexer::literal::digits_from: `12ab` ends before `a`; a fault is forgotten; the place of `2` in `0b12` without the prefix
 digits-stop : Not (2 ≡ literalEnd (49 ∷ 50 ∷ 97 ∷ 98 ∷ []) 0)
 unfolding literalEnd literalByte digitOf
 digits-stop e = omega arith
 
-digits-forget : Not (Number (record { hi = 0; lo = 12 }) ≡ reading 10 Empty (49 ∷ 97 ∷ 50 ∷ []))
+digits-forget : Not (Number (record { hi = 0; lo = 12 }) ≡ reading 10 Empty (49 ∷ 97 ∷ 50 ∷ []) 0)
 unfolding reading grow taken grown val literalByte digitOf
 digits-forget e = let z : _≡_ {A = ℕ} 0 1 = cc in omega arith
+
+digits-prefix : Not (Bad (record { number = 6; place = 1 }) ≡ reading 2 Empty (49 ∷ 50 ∷ []) 2)
+unfolding reading grow taken grown val literalByte digitOf
+digits-prefix e = let z : _≡_ {A = ℕ} 1 3 = ap digitAt e in omega arith
 
 -- lexer::literal::radix_of: `0X` is radix 10; `1x` names one
 radix-upper : Not (10 ≡ radixOf 48 88)
@@ -273,14 +290,18 @@ radix-one : Not (16 ≡ radixOf 49 120)
 unfolding radixOf
 radix-one e = omega arith
 
--- lexer::literal::concluded: no digits read as 0; the place past a bad literal
+-- lexer::literal::concluded: no digits read as 0; the place past a bad literal; its start
 concluded-empty : Not (ok (is (token (int (pos 0)) 3 1)) ≡ concluded true 3 4 Empty)
 unfolding concluded
 concluded-empty e = let z : _≡_ {A = ℕ} 0 1 = cc in omega arith
 
-concluded-place : Not (refused 6 4 ≡ concluded false 0 4 Foreign)
+concluded-place : Not (refused 6 4 ≡ concluded false 0 4 (Bad (record { number = 6; place = 2 })))
 unfolding concluded
-concluded-place e = let z : _≡_ {A = ℕ} 4 0 = cc in omega arith
+concluded-place e = let z : _≡_ {A = ℕ} 4 2 = cc in omega arith
+
+concluded-start : Not (refused 6 0 ≡ concluded false 0 4 (Bad (record { number = 6; place = 2 })))
+unfolding concluded
+concluded-start e = let z : _≡_ {A = ℕ} 0 2 = cc in omega arith
 
 -- lexer::next_token: a comment that ends at the first `;)`; `12ab` as 12; vertical tab as a blank
 next-first-closer : Not (ok (is (token symbol 6 1)) ≡ nextToken (40 ∷ 59 ∷ 40 ∷ 59 ∷ 59 ∷ 41 ∷ 120 ∷ 59 ∷ 41 ∷ []) 0)

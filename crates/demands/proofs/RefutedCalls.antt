@@ -103,7 +103,7 @@ put-none : Not (replicate 7 9 ≡ fitted (record-of 1 (97 ∷ [])) (replicate 7 
 unfolding record-of le
 put-none e = let z : _≡_ {A = ℕ} 9 7 = cc in omega arith
 
--- table::record_at: an empty symbol is bad; a length past the end is let through
+-- table::record_at: an empty symbol is bad; a length past the end is let through; 20 before 15; a missing tree as a record cut short
 record-empty : Not (Bad 15 ≡ recordAt (6 ∷ 0 ∷ 0 ∷ 0 ∷ 1 ∷ 0 ∷ []) 0)
 unfolding recordAt headAt number
 record-empty e = let z : _≡_ {A = ℕ} 0 1 = cc in omega arith
@@ -111,6 +111,14 @@ record-empty e = let z : _≡_ {A = ℕ} 0 1 = cc in omega arith
 record-past : Not (Symbol 7 ≡ recordAt (7 ∷ 0 ∷ 0 ∷ 0 ∷ 1 ∷ 0 ∷ []) 0)
 unfolding recordAt headAt number
 record-past e = let z : _≡_ {A = ℕ} 0 1 = cc in omega arith
+
+record-kind : Not (Bad 20 ≡ recordAt (5 ∷ 0 ∷ 0 ∷ 0 ∷ 5 ∷ 0 ∷ []) 0)
+unfolding recordAt headAt number
+record-kind e = let z : _≡_ {A = ℕ} 20 15 = cc in omega arith
+
+record-missing : Not (Bad 15 ≡ recordAt [] 0)
+unfolding recordAt headAt number
+record-missing e = let z : _≡_ {A = ℕ} 15 22 = cc in omega arith
 
 -- table::is_symbol: the empty one; one that begins with a digit
 symbol-empty : Not (true ≡ isSymbol [])
@@ -121,7 +129,7 @@ symbol-digit : Not (true ≡ isSymbol (49 ∷ 97 ∷ []))
 unfolding isSymbol runsOn classOf
 symbol-digit e = let z : _≡_ {A = ℕ} 0 1 = cc in omega arith
 
--- table::step_at: an empty symbol is let through; a list that is too deep is let through
+-- table::step_at: an empty symbol is let through; a list that is too deep is let through; 21 after 13
 step-empty : Not (judged-as.Symbol 6 ≡ stepAt (6 ∷ 0 ∷ 0 ∷ 0 ∷ 1 ∷ 0 ∷ []) false 0 true)
 unfolding stepAt recordAt headAt number isSymbol
 step-empty e = let z : _≡_ {A = ℕ} 0 1 = cc in omega arith
@@ -129,6 +137,10 @@ step-empty e = let z : _≡_ {A = ℕ} 0 1 = cc in omega arith
 step-deep : Not (judged-as.List 0 ≡ stepAt (10 ∷ 0 ∷ 0 ∷ 0 ∷ 4 ∷ 0 ∷ 0 ∷ 0 ∷ 0 ∷ 0 ∷ []) false 0 false)
 unfolding stepAt recordAt headAt number
 step-deep e = let z : _≡_ {A = ℕ} 0 1 = cc in omega arith
+
+step-length : Not (judged-as.Fault 13 ≡ stepAt (11 ∷ 0 ∷ 0 ∷ 0 ∷ 4 ∷ 0 ∷ 0 ∷ 0 ∷ 0 ∷ 0 ∷ 0 ∷ []) false 0 false)
+unfolding stepAt recordAt headAt number
+step-length e = let z : _≡_ {A = ℕ} 13 21 = cc in omega arith
 
 -- table::past_symbol: past an empty symbol; not past a good one
 past-empty : Not (6 ≡ pastSymbol (6 ∷ 0 ∷ 0 ∷ 0 ∷ 1 ∷ 0 ∷ []) 0)

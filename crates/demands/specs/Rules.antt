@@ -89,7 +89,7 @@ pub record Rules : Type 0 where
   pub lparen-waits : (p : ℕ) → p < sourceLimit → feedOf (live Blank p) (40 ∷ []) ≡ fed (ok more) 1 (live (Opener p) (suc p))
   pub symbol-waits : (st p b : ℕ) → p < sourceLimit → symbolOther (classOf b) ≡ true → feedOf (live (Symbol st) p) (b ∷ []) ≡ fed (ok more) 1 (live (Symbol st) (suc p))
   pub literal-waits : (st p b r : ℕ) (minus : Bool) (x : Reading) → p < sourceLimit → literalByte b ≡ true
-      → feedOf (live (Digits st minus r x) p) (b ∷ []) ≡ fed (ok more) 1 (live (Digits st minus r (grow r x b)) (suc p))
+      → feedOf (live (Digits st minus r x) p) (b ∷ []) ≡ fed (ok more) 1 (live (Digits st minus r (grow r x b p)) (suc p))
   pub sign-waits : (p : ℕ) → p < sourceLimit → feedOf (live Blank p) (45 ∷ []) ≡ fed (ok more) 1 (live (Sign p) (suc p))
   pub zero-waits : (p : ℕ) → p < sourceLimit → feedOf (live Blank p) (48 ∷ []) ≡ fed (ok more) 1 (live (Zero p false) (suc p))
   pub sign-zero-waits : (st p : ℕ) → p < sourceLimit → feedOf (live (Sign st) p) (48 ∷ []) ≡ fed (ok more) 1 (live (Zero st true) (suc p))

@@ -1,7 +1,7 @@
--- Document 01, 'Worked by hand': every case marked P, as a single statement over one list: THEOREM worked.
+-- Document 01, 'Worked by hand': every case marked P, and what document 02 changed of them or added, as a single statement over one list: THEOREM worked.
 use mathlib.Core.Path.{_≡_}
 use Prim.Native.Nat.{ℕ, _-_, _^_}
-use mathlib.Core.List.{List, [], _∷_, map}
+use mathlib.Core.List.{List, [], _∷_, _++_, map}
 use lib.IntN.{pos, negsuc}
 use lib.ListN.{take, replicate}
 use Rattle.refusals.specs.Result.{Result, ok, refused, andThen}
@@ -10,11 +10,12 @@ use Rattle.lexer.specs.Streams.{Stream, ends, then, tokensOf}
 use Rattle.reader.specs.Reading.{reading, readInto}
 use Rattle.printer.specs.Printing.{printing, printedInto}
 
--- a source is lexed, or read into a room, or read and then printed at a width into a room
+-- a source is lexed, or read into a room, or read and then printed at a width into a room; or a table is so printed
 pub data Run : Type 0 where
   lexed : List ℕ → Run
   read : List ℕ → Run
   printed : List ℕ → ℕ → Run
+  table : List ℕ → ℕ → Run
 
 -- tokens and how they end; the bytes of a table or of a text, or the refusal
 pub data Outcome : Type 0 where
@@ -31,11 +32,15 @@ front r b = andThen r (λ n. ok (take n b))
 abbrev tabled : List ℕ → Result (List ℕ)
 tabled s = front (reading s 80) (readInto s room)
 
+abbrev texted : List ℕ → ℕ → Result (List ℕ)
+texted t w = front (printing t w 80) (printedInto t w room)
+
 -- a refused read prints nothing; a table that was read is printed by the contract's own definitions
 abbrev ran : Run → Outcome
 ran (lexed s) = tokens (tokensOf s)
 ran (read s) = bytes (tabled s)
-ran (printed s w) = bytes (andThen (tabled s) (λ t. front (printing t w 80) (printedInto t w room)))
+ran (printed s w) = bytes (andThen (tabled s) (λ t. texted t w))
+ran (table t w) = bytes (texted t w)
 
 pub record Case : Type 0 where
   pub run : Run
@@ -55,7 +60,7 @@ cases =
     ∷ case (lexed (40 ∷ 59 ∷ 41 ∷ [])) (tokens (ends (refused 4 0)))
     ∷ case (lexed (40 ∷ 59 ∷ 40 ∷ 59 ∷ 59 ∷ 41 ∷ 59 ∷ 41 ∷ 120 ∷ [])) (tokens (then (token symbol 8 1) (ends (ok tt))))
     -- `12ab`, `-`, `12xyz`, `1_0-2`
-    ∷ case (lexed (49 ∷ 50 ∷ 97 ∷ 98 ∷ [])) (tokens (ends (refused 6 0)))
+    ∷ case (lexed (49 ∷ 50 ∷ 97 ∷ 98 ∷ [])) (tokens (ends (refused 6 2)))
     ∷ case (lexed (45 ∷ [])) (tokens (ends (refused 5 0)))
     ∷ case (lexed (49 ∷ 50 ∷ 120 ∷ 121 ∷ 122 ∷ [])) (tokens (then (token (int (pos 12)) 0 2) (then (token symbol 2 3) (ends (ok tt)))))
     ∷ case (lexed (49 ∷ 95 ∷ 48 ∷ 45 ∷ 50 ∷ [])) (tokens (then (token (int (pos 10)) 0 3) (then (token (int (negsuc 1)) 3 2) (ends (ok tt)))))
@@ -65,6 +70,10 @@ cases =
     ∷ case (lexed (45 ∷ 48 ∷ 120 ∷ replicate 32 102)) (tokens (then (token (int (pos 1)) 0 35) (ends (ok tt))))
     -- `a`, form feed, `b`
     ∷ case (lexed (97 ∷ 12 ∷ 98 ∷ [])) (tokens (then (token symbol 0 1) (ends (refused 3 1))))
+    -- document 02, 1/12: the digit's place. `(a 12ab)`; `0b` and 128 digits of which the 100th is `2`; `-0x` and 33 `f`
+    ∷ case (read (40 ∷ 97 ∷ 32 ∷ 49 ∷ 50 ∷ 97 ∷ 98 ∷ 41 ∷ [])) (bytes (refused 6 5))
+    ∷ case (lexed (48 ∷ 98 ∷ (replicate 99 49 ++ (50 ∷ replicate 28 49)))) (tokens (ends (refused 6 101)))
+    ∷ case (lexed (45 ∷ 48 ∷ 120 ∷ replicate 33 102)) (tokens (ends (refused 7 35)))
     -- `x @ (a)`, `x @ )`
     ∷ case (read (120 ∷ 32 ∷ 64 ∷ 32 ∷ 40 ∷ 97 ∷ 41 ∷ []))
     (bytes (ok (7 ∷ 0 ∷ 0 ∷ 0 ∷ 3 ∷ 0 ∷ 120 ∷ 10 ∷ 0 ∷ 0 ∷ 0 ∷ 4 ∷ 0 ∷ 1 ∷ 0 ∷ 0 ∷ 0 ∷ 7 ∷ 0 ∷ 0 ∷ 0 ∷ 1 ∷ 0 ∷ 97 ∷ [])))
@@ -74,6 +83,12 @@ cases =
     ∷ case (printed rule 13)
     (bytes (ok (40 ∷ 114 ∷ 117 ∷ 108 ∷ 101 ∷ 10 ∷ 32 ∷ 32 ∷ 32 ∷ 32 ∷ 40 ∷ 97 ∷ 32 ∷ 98 ∷ 41 ∷ 10 ∷ 32 ∷ 32 ∷ 32 ∷ 32 ∷ 99 ∷ 10 ∷ 41 ∷ 10 ∷ [])))
     ∷ case (printed (40 ∷ 41 ∷ []) 0) (bytes (ok (40 ∷ 41 ∷ 10 ∷ [])))
+    -- document 02, 1/12: table faults. A length below 6 and an unknown kind; that kind alone; a list of length 11; a list whose item is missing; one whose item is cut short
+    ∷ case (table (5 ∷ 0 ∷ 0 ∷ 0 ∷ 5 ∷ 0 ∷ []) 0) (bytes (refused 15 0))
+    ∷ case (table (6 ∷ 0 ∷ 0 ∷ 0 ∷ 5 ∷ 0 ∷ []) 0) (bytes (refused 20 0))
+    ∷ case (table (11 ∷ 0 ∷ 0 ∷ 0 ∷ 4 ∷ 0 ∷ 0 ∷ 0 ∷ 0 ∷ 0 ∷ 0 ∷ []) 0) (bytes (refused 21 0))
+    ∷ case (table (10 ∷ 0 ∷ 0 ∷ 0 ∷ 4 ∷ 0 ∷ 1 ∷ 0 ∷ 0 ∷ 0 ∷ []) 0) (bytes (refused 22 10))
+    ∷ case (table (10 ∷ 0 ∷ 0 ∷ 0 ∷ 4 ∷ 0 ∷ 1 ∷ 0 ∷ 0 ∷ 0 ∷ 7 ∷ []) 0) (bytes (refused 15 10))
     ∷ []
 
 abbrev pub Worked : Type 0

@@ -39,9 +39,9 @@ endedBy (ok (is t)) = ok (Stay t)
 endedBy (ok end) = refused 0 0
 endedBy (refused n a) = refused n a
 
--- a literal's first digit: `0` may begin a prefix
-abbrev pub begun : ℕ → Bool → ℕ → Mode
-begun st minus b = cond (eqb b 48) (Zero st minus) (Digits st minus 10 (grow 10 Empty b))
+-- a literal's first digit, the byte b at p: `0` may begin a prefix
+abbrev pub begun : ℕ → Bool → ℕ → ℕ → Mode
+begun st minus p b = cond (eqb b 48) (Zero st minus) (Digits st minus 10 (grow 10 Empty b p))
 
 abbrev pub inBlank : Class → ℕ → ℕ → Result Turn
 inBlank Space p b = ok (Go Blank)
@@ -52,7 +52,7 @@ inBlank RParen p b = ok (Take (token closeParen p 1))
 inBlank AtSign p b = ok (Take (token at-sign p 1))
 inBlank FormFeed p b = refused formFeed p
 inBlank Minus p b = ok (Go (Sign p))
-inBlank Digit p b = ok (Go (begun p false b))
+inBlank Digit p b = ok (Go (begun p false p b))
 inBlank Other p b = ok (Go (Symbol p))
 
 -- in a block comment: half of `(;` or `;)`, by the byte that was just consumed
@@ -73,7 +73,7 @@ inBlock c st d Semi = cond (rparen c) (out st d) (Block st d (half c))
 inBlock c st d Paren = cond (semicolon c) (Block st (deeper d) Clear) (Block st d (half c))
 
 abbrev pub inDigits : ℕ → Bool → ℕ → Reading → ℕ → ℕ → Result Turn
-inDigits st minus r x p b = cond (literalByte b) (ok (Go (Digits st minus r (grow r x b)))) (endedBy (concluded minus st p x))
+inDigits st minus r x p b = cond (literalByte b) (ok (Go (Digits st minus r (grow r x b p)))) (endedBy (concluded minus st p x))
 
 -- the byte b at p
 unfoldable pub turn : Mode → ℕ → ℕ → Result Turn
@@ -81,7 +81,7 @@ turn Blank p b = inBlank (classOf b) p b
 turn Line p b = ok (Go (cond (lineEnd (classOf b)) Blank Line))
 turn (Opener st) p b = cond (semicolon (classOf b)) (ok (Go (Block st 1 Clear))) (ok (Stay (token openParen st 1)))
 turn (Symbol st) p b = cond (symbolOther (classOf b)) (ok (Go (Symbol st))) (ok (Stay (token symbol st (p - st))))
-turn (Sign st) p b = cond (literalByte b) (ok (Go (begun st true b))) (endedBy (concluded true st p Empty))
+turn (Sign st) p b = cond (literalByte b) (ok (Go (begun st true p b))) (endedBy (concluded true st p Empty))
 turn (Block st d h) p b = ok (Go (inBlock (classOf b) st d h))
 turn (Zero st minus) p b = cond (eqb (radixOf 48 b) 10) (inDigits st minus 10 (Number (split 0)) p b) (ok (Go (Digits st minus (radixOf 48 b) Empty)))
 turn (Digits st minus r x) p b = inDigits st minus r x p b

@@ -26,9 +26,9 @@ fn ended(last: Lexed, i: usize) -> Moved
     }
 }
 
-// A literal's first digit: `0` may begin a prefix.
-pub fn begun_by(start: usize, minus: bool, b: u8) -> Mode
-    ensures { λ r. ⌜ r ≡ begun start minus b ⌝ }
+// A literal's first digit, which stands at `place`: `0` may begin a prefix.
+pub fn begun_by(start: usize, minus: bool, place: usize, b: u8) -> Mode
+    ensures { λ r. ⌜ r ≡ begun start minus place b ⌝ }
 {
     if b == 48 {
         return Mode::Zero { start, minus };
@@ -37,7 +37,7 @@ pub fn begun_by(start: usize, minus: bool, b: u8) -> Mode
         start,
         minus,
         radix: 10,
-        reading: lexer::literal::grow(10, Reading::Empty, b),
+        reading: lexer::literal::grow(10, Reading::Empty, b, place),
     }
 }
 
@@ -48,7 +48,7 @@ pub fn in_sign(piece: &[u8], place: usize, i: usize, stop: usize, start: usize) 
 {
     let b = piece[i];
     if classes::is_literal_byte(b) {
-        return Moved::On(begun_by(start, true, b), i + 1);
+        return Moved::On(begun_by(start, true, place + i, b), i + 1);
     }
     Moved::Halt(
         Refusal {
@@ -77,7 +77,7 @@ pub fn in_digits(
     while j < stop {
         let b = piece[j];
         if classes::is_literal_byte(b) {
-            x = lexer::literal::grow(radix, x, b);
+            x = lexer::literal::grow(radix, x, b, place + j);
             j += 1;
         } else {
             return ended(lexer::literal::concluded(minus, start, place + j, x), j);
@@ -117,7 +117,7 @@ pub fn in_zero(
                     start,
                     minus,
                     radix: 10,
-                    reading: lexer::literal::grow(10, zero, b),
+                    reading: lexer::literal::grow(10, zero, b, place + i),
                 },
                 i + 1,
             );

@@ -70,7 +70,8 @@ fn in_blank(piece: &[u8], place: usize, i: usize, stop: usize) -> Moved
                 return Moved::On(Mode::Sign { start: place + j }, j + 1);
             }
             Class::Digit => {
-                return Moved::On(begun_by(place + j, false, b), j + 1);
+                let start = place + j;
+                return Moved::On(begun_by(start, false, start, b), j + 1);
             }
             Class::Other => {
                 return Moved::On(Mode::Symbol { start: place + j }, j + 1);

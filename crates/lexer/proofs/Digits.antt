@@ -24,15 +24,15 @@ module _ (s : List ℕ) (i : ℕ) where
     end-go e = rw (from s i h, e) (ap (literalEnd (drop (i + 1) s)) (sym (add-one i)))
 
   module _ (r : ℕ) (x : Reading) where
-    pub read-past : length s ≤ i → reading r x (drop i s) ≡ x
+    pub read-past : length s ≤ i → reading r x (drop i s) i ≡ x
     unfolding reading
     read-past h = rw (drop-of-length-le s h)
 
   module _ (h : i < length s) (r : ℕ) (x : Reading) where
-    pub read-stop : literalByte (getD s i 0) ≡ false → reading r x (drop i s) ≡ x
+    pub read-stop : literalByte (getD s i 0) ≡ false → reading r x (drop i s) i ≡ x
     unfolding reading
     read-stop e = rw (from s i h, e)
 
-    pub read-go : literalByte (getD s i 0) ≡ true → reading r x (drop i s) ≡ reading r (grow r x (getD s i 0)) (drop (i + 1) s)
+    pub read-go : literalByte (getD s i 0) ≡ true → reading r x (drop i s) i ≡ reading r (grow r x (getD s i 0) i) (drop (i + 1) s) (i + 1)
     unfolding reading
-    read-go e = rw (from s i h, e)
+    read-go e = rw (from s i h, e) (ap (reading r (grow r x (getD s i 0) i) (drop (i + 1) s)) (sym (add-one i)))

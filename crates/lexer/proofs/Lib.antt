@@ -3,3 +3,4 @@ pub mod Comments
 pub mod Digits
 pub mod Starts
 pub mod Within
+pub mod DigitPlaces

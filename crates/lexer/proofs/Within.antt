@@ -24,7 +24,7 @@ use Rattle.classes.proofs.Firsts.{digit-literal}
 use Rattle.wide.specs.Value.{val, grown, Integer, is as isInteger, none as noInteger, integerOf}
 use Rattle.wide.proofs.TwoLimbs.{split-val}
 use Rattle.lexer.specs.Tokens.{Kind, lparen, rparen, at-sign, symbol, int, Token, token, past, Answer, end, is}
-use Rattle.lexer.specs.Literals.{Reading, Empty, Foreign, Over, Number, grew, taken, digit, grow, reading, literalEnd, radixOf, signed, concluded, digitsIn, unsignedIn}
+use Rattle.lexer.specs.Literals.{Reading, Empty, Bad, Number, grew, taken, digit, grow, reading, literalEnd, radixOf, signed, concluded, digitsIn, unsignedIn}
 use Rattle.lexer.specs.Lexing.{Skip, Between, InLine, InBlock, Skipping, Stop, One, Two, skip, symbolEnd, tokenIn, skipped, lexIn, lexAt, nextToken}
 
 -- by the kind of a token that starts at st and has n bytes: one byte; a symbol's run; an integer in range that the next byte does not go on, and that has two
@@ -89,12 +89,12 @@ literal-within s (b ∷ l) i e h = by (literalByte b) refl (literal-within s l (
     by false f k = (omega arith, h, ap literalByte (byte s i b l e) ∙ f)
 
 -- a number has a digit
-digits-within : (s l : List ℕ) (i r : ℕ) (n : _) → drop i s ≡ l → reading r Empty l ≡ Number n → Ends s (suc i) (literalEnd l i)
+digits-within : (s l : List ℕ) (i r : ℕ) (n : _) → drop i s ≡ l → reading r Empty l i ≡ Number n → Ends s (suc i) (literalEnd l i)
 unfolding reading literalEnd
 digits-within s [] i r n e k = let z : _≡_ {A = ℕ} 0 1 = cc in absurd (omega arith)
 digits-within s (b ∷ l) i r n e k = by (literalByte b) k
   where
-    by : (t : Bool) → cond t (reading r (grow r Empty b) l) Empty ≡ Number n → Ends s (suc i) (cond t (literalEnd l (suc i)) i)
+    by : (t : Bool) → cond t (reading r (grow r Empty b i) l (suc i)) Empty ≡ Number n → Ends s (suc i) (cond t (literalEnd l (suc i)) i)
     by false k = let z : _≡_ {A = ℕ} 0 1 = cc in absurd (omega arith)
     by true k = literal-within s l (suc i) (next s i b l e) (omega (arith, inside s i b l e))
 
@@ -102,32 +102,30 @@ digits-within s (b ∷ l) i r n e k = by (literalByte b) k
 
 abbrev Small : Reading → Type 0
 Small Empty = Unit {0}
-Small Foreign = Unit {0}
-Small Over = Unit {0}
+Small (Bad r) = Unit {0}
 Small (Number n) = val n < 2 ^ 128
 
-small-grown : (v : ℕ) → Small (grew (grown v))
+small-grown : (v p : ℕ) → Small (grew (grown v) p)
 unfolding grown
-small-grown v = pick (λ g. Small (grew g)) (ltb v (2 ^ 128)) (λ e. subst (λ (m : ℕ). m < 2 ^ 128) (sym (split-val v)) (ltb-true v (2 ^ 128) e)) (λ e. tt)
+small-grown v p = pick (λ g. Small (grew g p)) (ltb v (2 ^ 128)) (λ e. subst (λ (m : ℕ). m < 2 ^ 128) (sym (split-val v)) (ltb-true v (2 ^ 128) e)) (λ e. tt)
 
-small-taken : (r n d : ℕ) → Small (taken r n d)
+small-taken : (r n d p : ℕ) → Small (taken r n d p)
 unfolding taken
-small-taken r n d = pick Small (leb r d) (λ e. tt) (λ e. small-grown (n * r + d))
+small-taken r n d p = pick Small (leb r d) (λ e. tt) (λ e. small-grown (n * r + d) p)
 
-small-grow : (r : ℕ) (x : Reading) (b : ℕ) → Small x → Small (grow r x b)
+small-grow : (r : ℕ) (x : Reading) (b p : ℕ) → Small x → Small (grow r x b p)
 unfolding grow
-small-grow r x b h = pick Small (eqb b 95) (λ e. h) (λ e. by x)
+small-grow r x b p h = pick Small (eqb b 95) (λ e. h) (λ e. by x)
   where
-    by : (x : Reading) → Small (digit r x (digitOf b))
-    by Empty = small-taken r 0 (digitOf b)
-    by Foreign = tt
-    by Over = tt
-    by (Number n) = small-taken r (val n) (digitOf b)
+    by : (x : Reading) → Small (digit r x (digitOf b) p)
+    by Empty = small-taken r 0 (digitOf b) p
+    by (Bad q) = tt
+    by (Number n) = small-taken r (val n) (digitOf b) p
 
-small-reading : (r : ℕ) (l : List ℕ) (x : Reading) → Small x → Small (reading r x l)
+small-reading : (r : ℕ) (l : List ℕ) (x : Reading) (i : ℕ) → Small x → Small (reading r x l i)
 unfolding reading
-small-reading r [] x h = h
-small-reading r (b ∷ l) x h = pick Small (literalByte b) (λ e. small-reading r l (grow r x b) (small-grow r x b h)) (λ e. h)
+small-reading r [] x i h = h
+small-reading r (b ∷ l) x i h = pick Small (literalByte b) (λ e. small-reading r l (grow r x b i) (suc i) (small-grow r x b i h)) (λ e. h)
 
 -- ---- literals
 
@@ -157,15 +155,14 @@ signed-in s st e (isInteger z) f h k d =
 digits-in : (s : List ℕ) (minus : Bool) (st r : ℕ) (l : List ℕ) (i : ℕ) → drop i s ≡ l → st ≤ i → (i ≡ st → classOf (getD s st 0) ≡ Digit)
     → LiesIn s st (digitsIn minus st r l i)
 unfolding concluded
-digits-in s minus st r l i e h d = by (reading r Empty l) refl
+digits-in s minus st r l i e h d = by (reading r Empty l i) refl
   where
-    by : (x : Reading) → reading r Empty l ≡ x → LiesIn s st (concluded minus st (literalEnd l i) x)
+    by : (x : Reading) → reading r Empty l i ≡ x → LiesIn s st (concluded minus st (literalEnd l i) x)
     by Empty k = tt
-    by Foreign k = tt
-    by Over k = tt
+    by (Bad q) k = tt
     by (Number n) k =
         let w = digits-within s l i r n e k in
-        signed-in s st (literalEnd l i) (integerOf minus (val n)) (ranged minus (val n) (subst Small k (small-reading r l Empty tt)))
+        signed-in s st (literalEnd l i) (integerOf minus (val n)) (ranged minus (val n) (subst Small k (small-reading r l Empty i tt)))
         (omega arith) (omega arith, w .1, w .2) (λ g. d (omega arith))
 
 unsigned-in : (s : List ℕ) (minus : Bool) (st : ℕ) (l : List ℕ) (i : ℕ) → drop i s ≡ l → st ≤ i → (i ≡ st → classOf (getD s st 0) ≡ Digit)

@@ -4,3 +4,4 @@ pub mod Lexing
 pub mod Streams
 pub mod BareTokens
 pub mod PrivateBlocks
+pub mod DigitPlaces

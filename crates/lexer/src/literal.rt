@@ -2,21 +2,20 @@
 use crate::Lexed;
 use crate::Token;
 use crate::refused;
+use refusals::Refusal;
 use wide::Grown;
 use wide::Limbs;
 use wide::Signed;
 ghost use mathlib.Core.Path.{_≡_};
-ghost use Prim.Native.Nat.{_≤_};
 ghost use lib.ListN.{drop};
 ghost use Rattle.wide.specs.Value.{val};
 ghost use Rattle.lexer.specs.Tokens.{answerOf};
-ghost use Rattle.lexer.specs.Literals.{Empty as NoDigit, taken, grow, reading, literalEnd, radixOf, placeOf, concluded};
+ghost use Rattle.lexer.specs.Literals.{Empty as NoDigit, taken, grow, reading, literalEnd, radixOf, concluded};
 
-// What the digits so far read as: a foreign digit or one too many stays.
+// What the digits so far read as: the refusal of the first digit that is foreign or too much stays.
 pub enum Reading {
     Empty,
-    Foreign,
-    Over,
+    Bad(Refusal),
     Number(Limbs),
 }
 
@@ -26,44 +25,49 @@ pub struct Digits {
     pub end: usize,
 }
 
-fn taken(radix: u8, n: Limbs, d: u8) -> Reading
-    ensures { λ r. ⌜ r ≡ taken radix (val n) d ⌝ }
+fn taken(radix: u8, n: Limbs, d: u8, place: usize) -> Reading
+    ensures { λ r. ⌜ r ≡ taken radix (val n) d place ⌝ }
 {
     if radix <= d {
-        return Reading::Foreign;
+        return Reading::Bad(Refusal {
+            number: refusals::FOREIGN_DIGIT,
+            place,
+        });
     }
     match wide::grow(n, radix, d) {
         Grown::Fits(k) => Reading::Number(k),
-        Grown::Over => Reading::Over,
+        Grown::Over => Reading::Bad(Refusal {
+            number: refusals::TOO_LARGE,
+            place,
+        }),
     }
 }
 
-// One byte of a literal more.
-pub fn grow(radix: u8, x: Reading, b: u8) -> Reading
-    ensures { λ r. ⌜ r ≡ grow radix x b ⌝ }
+// One byte of a literal more, which stands at `place`.
+pub fn grow(radix: u8, x: Reading, b: u8, place: usize) -> Reading
+    ensures { λ r. ⌜ r ≡ grow radix x b place ⌝ }
 {
     if b == 95 {
         return x;
     }
     let d = classes::digit_of(b);
     match x {
-        Reading::Empty => taken(radix, Limbs { hi: 0, lo: 0 }, d),
-        Reading::Foreign => Reading::Foreign,
-        Reading::Over => Reading::Over,
-        Reading::Number(n) => taken(radix, n, d),
+        Reading::Empty => taken(radix, Limbs { hi: 0, lo: 0 }, d, place),
+        Reading::Bad(first) => Reading::Bad(first),
+        Reading::Number(n) => taken(radix, n, d, place),
     }
 }
 
 // All the bytes of a literal that stand from `at` on.
 pub fn digits_from(src: &[u8], at: usize, radix: u8) -> Digits
-    ensures { λ r. ⌜ (r .reading ≡ reading radix NoDigit (drop at (now (src .entry)))) × (r .end ≡ literalEnd (drop at (now (src .entry))) at) ⌝ }
+    ensures { λ r. ⌜ (r .reading ≡ reading radix NoDigit (drop at (now (src .entry))) at) × (r .end ≡ literalEnd (drop at (now (src .entry))) at) ⌝ }
 {
     let mut i = at;
     let mut x = Reading::Empty;
     while i < src.len() {
         let b = src[i];
         if classes::is_literal_byte(b) {
-            x = grow(radix, x, b);
+            x = grow(radix, x, b, i);
             i += 1;
         } else {
             return Digits { reading: x, end: i };
@@ -91,22 +95,13 @@ pub fn radix_of(b: u8, c: u8) -> u8
     10
 }
 
-// The place that a literal's refusal names, by what was read: its start, whatever that was.
-fn place_of(start: usize, x: Reading) -> usize
-    ensures { λ r. ⌜ r ≡ placeOf start x ⌝ }
-{
-    start
-}
-
-// The answer for a literal from `start` up to `end`: every refusal of a literal is given here.
+// The answer for a literal from `start` up to `end`: the refusal of a digit names the digit, every other one the literal's start.
 pub fn concluded(minus: bool, start: usize, end: usize, x: Reading) -> Lexed
     ensures { λ r. ⌜ answerOf r ≡ concluded minus start end x ⌝ }
 {
-    let place = place_of(start, x);
     match x {
-        Reading::Empty => refused(refusals::NO_DIGITS, place),
-        Reading::Foreign => refused(refusals::FOREIGN_DIGIT, place),
-        Reading::Over => refused(refusals::TOO_LARGE, place),
+        Reading::Empty => refused(refusals::NO_DIGITS, start),
+        Reading::Bad(digit) => Lexed::Refused(digit),
         Reading::Number(n) => match wide::with_sign(n, minus) {
             Signed::Refused => refused(refusals::MINUS_LOWEST, start),
             Signed::Is(w) => Lexed::Token(Token::Int(w, lists::less(end, start)), start),

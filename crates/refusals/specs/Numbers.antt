@@ -1,4 +1,4 @@
--- The numbers of document 01, 'Numbers given instead of an answer', and the limits of 'What is ported and what is added', by name.
+-- The numbers of document 01, 'Numbers given instead of an answer', and of document 02, and the limits of 'What is ported and what is added', by name.
 use Prim.Native.Nat.{ℕ}
 
 -- bytes of a source; bytes of a table; lists and bindings open at once
@@ -65,7 +65,7 @@ tooDeep = 13
 abbrev pub tableRoom : ℕ
 tableRoom = 14
 
--- bad record or missing trees
+-- record cut short, or its length below 6 or past the table
 abbrev pub badRecord : ℕ
 badRecord = 15
 
@@ -83,3 +83,15 @@ printRoom = 18
 
 abbrev pub fedAfterClose : ℕ
 fedAfterClose = 19
+
+-- record of unknown kind
+abbrev pub unknownKind : ℕ
+unknownKind = 20
+
+-- length wrong for the record's kind
+abbrev pub wrongLength : ℕ
+wrongLength = 21
+
+-- missing trees, at the table's length
+abbrev pub missingTrees : ℕ
+missingTrees = 22

@@ -1,4 +1,4 @@
-// The numbers that document 01 gives instead of an answer, and its limits, by name.
+// The numbers that documents 01 and 02 give instead of an answer, and the limits, by name.
 
 // A refusal: its number and its place.
 pub struct Refusal {
@@ -51,3 +51,10 @@ pub const LOWEST: u8 = 17;
 pub const PRINT_ROOM: u8 = 18;
 
 pub const FED_AFTER_CLOSE: u8 = 19;
+
+// What document 02 adds to them.
+pub const UNKNOWN_KIND: u8 = 20;
+
+pub const WRONG_LENGTH: u8 = 21;
+
+pub const MISSING_TREES: u8 = 22;

@@ -25,11 +25,18 @@ pub worked : (recordsOf tree ≡ bytes) × (tableOf true bytes ≡ ok (found tre
 unfolding le number classOf runsOn isSymbol record-of records headAt recordAt stepAt itemsAt treeAt treesAt tableOf
 worked = (refl, refl)
 
--- the item of the list is missing; a record cut by the end; an empty symbol
-pub refused-tables : (tableOf false (take 17 bytes) ≡ refused 15 17) × (tableOf false (take 6 bytes) ≡ refused 15 0)
-    × (tableOf false (6 ∷ 0 ∷ 0 ∷ 0 ∷ 1 ∷ 0 ∷ []) ≡ refused 16 0)
+-- the item of the list is missing; one byte of it is left; a record cut by the end; an empty symbol
+pub refused-tables : (tableOf false (take 17 bytes) ≡ refused 22 17) × (tableOf false (take 18 bytes) ≡ refused 15 17)
+    × (tableOf false (take 6 bytes) ≡ refused 15 0) × (tableOf false (6 ∷ 0 ∷ 0 ∷ 0 ∷ 1 ∷ 0 ∷ []) ≡ refused 16 0)
 unfolding le number classOf runsOn isSymbol record-of records headAt recordAt stepAt itemsAt treeAt treesAt tableOf
-refused-tables = (refl, refl, refl)
+refused-tables = (refl, refl, refl, refl)
+
+-- an unknown kind, with a length below 6 and with one of a head; a list of length 11, the 65th to be open and not
+pub ordered-faults : (tableOf false (5 ∷ 0 ∷ 0 ∷ 0 ∷ 5 ∷ 0 ∷ []) ≡ refused 15 0) × (tableOf false (6 ∷ 0 ∷ 0 ∷ 0 ∷ 5 ∷ 0 ∷ []) ≡ refused 20 0)
+    × (treeAt (11 ∷ 0 ∷ 0 ∷ 0 ∷ 4 ∷ 0 ∷ 0 ∷ 0 ∷ 0 ∷ 0 ∷ 0 ∷ []) false 0 0 ≡ refused 21 0)
+    × (treeAt (11 ∷ 0 ∷ 0 ∷ 0 ∷ 4 ∷ 0 ∷ 0 ∷ 0 ∷ 0 ∷ 0 ∷ 0 ∷ []) false 1 0 ≡ refused 21 0)
+unfolding le number classOf runsOn isSymbol record-of records headAt recordAt stepAt itemsAt treeAt treesAt tableOf
+ordered-faults = (refl, refl, refl, refl)
 
 -- -2^127 is a good integer, and refused at printing
 abbrev lowest-record : List ℕ

@@ -11,18 +11,16 @@ use mir.Val.{toZ}
 use Rattle.lists.proofs.Stands.{Stands, stands-left, stands-take}
 use Rattle.wide.specs.Bytes.{le, number, numberAt, wideBytes, integerAt}
 use Rattle.wide.proofs.Numbers.{le-length, number-le, wide-length, wide-back}
-use Rattle.records.specs.declared.Head.{Head}
-use Rattle.records.specs.declared.Head.the-variants.{Is}
-use Rattle.records.specs.Records.{headLen, record-of}
+use Rattle.records.specs.Records.{headLen, record-of, headAt}
 use Rattle.records.proofs.Heads.{Stood, stood, stood-head, length-record}
 use Rattle.table.specs.Kinds.{symbolKind, integerKind, bindingKind, listKind}
 use Rattle.table.specs.Trees.{Tree, Trees, symbol, integer, binding, list, none, more, count, InRange, Good, Goods, records, recordsOf}
-use Rattle.table.specs.Records.{Record, Symbol, Integer, Binding, ListOf, recordOf, recordAt}
+use Rattle.table.specs.Records.{Record, Symbol, Integer, Binding, ListOf, kindOf, recordAt}
 use Rattle.table.proofs.Integers.{fits-range}
+use Rattle.table.proofs.Reading.{record-is}
 
-record-by : (t : List ℕ) (p kind : ℕ) (bs : List ℕ) → Stood t p kind bs → recordAt t p ≡ recordOf (Is kind (length bs + headLen)) (numberAt 4 t (p + headLen))
-unfolding recordAt
-record-by t p kind bs h = ap (λ (x : Head). recordOf x (numberAt 4 t (p + headLen))) (stood-head t p kind bs h)
+record-by : (t : List ℕ) (p kind : ℕ) (bs : List ℕ) → Stood t p kind bs → recordAt t p ≡ kindOf kind (length bs + headLen) (numberAt 4 t (p + headLen))
+record-by t p kind bs h = sym (record-is t p (headAt t p) kind (length bs + headLen) _ refl (stood-head t p kind bs h) refl)
 
 pub symbol-read : (t : List ℕ) (p : ℕ) (n : List ℕ) → Stood t p symbolKind n → Symbol (length n + headLen) ≡ recordAt t p
 symbol-read t p n h = sym (record-by t p symbolKind n h)

@@ -9,3 +9,4 @@ pub mod Checking
 pub mod Whole
 pub mod Deeper
 pub mod Cases
+pub mod Faults

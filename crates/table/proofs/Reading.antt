@@ -6,8 +6,8 @@ use Prim.Native.Nat.{ℕ, zero, suc, _+_, _-_, _≤_, _<_}
 use native.Mathlib.Omega.{arith}
 use lib.ListN.{length}
 use lib.Dec.{ltb, eqb, lit<}
-use borrow.Author.Tests.{lt-ltb, ltb-true, eqb-true}
-use Rattle.refusals.specs.Numbers.{tooDeep}
+use borrow.Author.Tests.{lt-ltb, le-ltb, ltb-true, eqb-true}
+use Rattle.refusals.specs.Numbers.{tooDeep, badRecord, missingTrees}
 use Rattle.lists.proofs.Choice.{pick}
 use Rattle.wide.specs.Bytes.{numberAt}
 use Rattle.refusals.specs.Result.{Result, ok, refused}
@@ -45,17 +45,31 @@ kind-in left len items few most kind =
 
 pub record-in : (t : List ℕ) (at : ℕ) → RecordAt t at (recordAt t at)
 unfolding recordAt
-record-in t at = by (headAt t at) (head-in t at)
+record-in t at = pick (RecordAt t at) (ltb at (length t)) (λ _. by (headAt t at) (head-in t at)) (λ _. lit< tt)
   where
     by : (x : Head) → HeadIn t at x → RecordAt t at (recordOf x (numberAt 4 t (at + headLen)))
     by Cut h = lit< tt
     by (Is kind len) h =
         rw (h .0, h .1) (kind-in (length t - at) len (numberAt 4 t (at + headLen)) (h .2) (h .3) kind)
 
--- the record r by a head x that was read as y
-pub record-is : (t : List ℕ) (at : ℕ) (x y : Head) (r : Record) → x ≡ headAt t at → x ≡ y → r ≡ recordOf y (numberAt 4 t (at + headLen)) → r ≡ recordAt t at
-unfolding recordAt
-record-is t at x y r e e′ f = f ∙ ap (λ (z : Head). recordOf z (numberAt 4 t (at + headLen))) (sym e′ ∙ e)
+module _ (t : List ℕ) (at : ℕ) where
+  -- a record is due, and a head x stands there
+  due : (x : Head) → at < length t → x ≡ headAt t at → recordOf x (numberAt 4 t (at + headLen)) ≡ recordAt t at
+  unfolding recordAt
+  due x l e = rw (lt-ltb at (length t) l, ← e) refl
+
+  -- the record r by a head x that was read as one of its kind and length
+  pub record-is : (x : Head) (kind len : ℕ) (r : Record) → x ≡ headAt t at → x ≡ Is kind len → r ≡ kindOf kind len (numberAt 4 t (at + headLen)) → r ≡ recordAt t at
+  record-is x kind len r e f g =
+      let h : HeadIn t at (Is kind len) = subst (HeadIn t at) (sym e ∙ f) (head-in t at) in
+      g ∙ due (Is kind len) (omega (arith, h .2, h .3)) (sym f ∙ e)
+
+  pub cut-is : (x : Head) → at < length t → x ≡ headAt t at → x ≡ Cut → Bad badRecord ≡ recordAt t at
+  cut-is x l e f = due Cut l (sym f ∙ e)
+
+  pub missing-is : length t ≤ at → Bad missingTrees ≡ recordAt t at
+  unfolding recordAt
+  missing-is h = rw (le-ltb at (length t) h) refl
 
 -- what is said of a record x that was read as y
 pub read-in : (t : List ℕ) (at : ℕ) (x y : Record) → x ≡ recordAt t at → x ≡ y → RecordAt t at y

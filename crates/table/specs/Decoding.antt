@@ -34,7 +34,7 @@ itemsAt f (suc n) at = andThen (f at) (λ x q. andThen (itemsAt f n q) (λ xs r.
 abbrev pub isLowest : List ℕ → ℕ → Bool
 isLowest t at = eqb (numberAt 16 t (at + headLen)) (2 ^ 127)
 
--- a record judged by itself: 15, 13, 16, and at printing 17; `deeper` says if one more list or binding may be open
+-- a record judged by itself: 22, or 15, 20, 21, 13, 16, and at printing 17; `deeper` says if one more list or binding may be open
 abbrev pub stepOf : List ℕ → Bool → ℕ → Bool → Record → Step
 stepOf t printing at deeper (Bad n) = step.Fault n
 stepOf t printing at deeper (Symbol len) = cond (isSymbol (payload t at len)) (step.Symbol len) (step.Fault badSymbol)
@@ -59,7 +59,7 @@ unfoldable pub treeAt : List ℕ → Bool → ℕ → ℕ → Result (Found Tree
 treeAt t printing zero at = ofStep t at (refused tooDeep) (stepAt t printing at false)
 treeAt t printing (suc d) at = ofStep t at (treeAt t printing d) (stepAt t printing at true)
 
--- whole trees up to the table's end; k is more than there can be. A tree that is missing at the end is a record that the end cuts
+-- whole trees up to the table's end; k is more than there can be. A tree that is missing at the end is refused there, where its record was due
 unfoldable pub treesAt : List ℕ → Bool → ℕ → ℕ → Result (Found Trees)
 treesAt t printing zero at = ok (found none at)
 treesAt t printing (suc k) at =

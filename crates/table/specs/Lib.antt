@@ -6,3 +6,4 @@ pub mod Past
 pub mod Printable
 pub mod Accepted
 pub mod PrivateWalking
+pub mod Faults

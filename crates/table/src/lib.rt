@@ -44,12 +44,17 @@ pub enum Checked {
     Refused(Refusal),
 }
 
-// The record at `at`; past the end of the table, as anywhere else where its bytes are missing, it is bad.
+// The record that is due at `at`: 22 where no byte is left, or 15, 20, 21.
 pub fn record_at(t: &[u8], at: usize) -> Record
     ensures { λ r. ⌜ r ≡ recordAt (now (t .entry)) at ⌝ }
 {
     match records::head_at(t, at) {
-        Head::Cut => Record::Bad(refusals::BAD_RECORD),
+        Head::Cut => {
+            if at < t.len() {
+                return Record::Bad(refusals::BAD_RECORD);
+            }
+            Record::Bad(refusals::MISSING_TREES)
+        }
         Head::Is(kind, len) => {
             if kind == SYMBOL {
                 return Record::Symbol(len);
@@ -58,7 +63,7 @@ pub fn record_at(t: &[u8], at: usize) -> Record
                 if len == INTEGER_LEN {
                     return Record::Integer;
                 }
-                return Record::Bad(refusals::BAD_RECORD);
+                return Record::Bad(refusals::WRONG_LENGTH);
             }
             if kind == BINDING {
                 return Record::Binding(len);
@@ -67,9 +72,9 @@ pub fn record_at(t: &[u8], at: usize) -> Record
                 if len == LIST_LEN {
                     return Record::List(wide::u32_at(t, at + HEAD));
                 }
-                return Record::Bad(refusals::BAD_RECORD);
+                return Record::Bad(refusals::WRONG_LENGTH);
             }
-            Record::Bad(refusals::BAD_RECORD)
+            Record::Bad(refusals::UNKNOWN_KIND)
         }
     }
 }
@@ -124,7 +129,7 @@ pub enum Step {
     List(usize),
 }
 
-// The record at `at`, judged: 15, 13, 16, 17. `deeper` says if one more list or binding may be open.
+// The record that is due at `at`, judged: 22, or 15, 20, 21, 13, 16, 17. `deeper` says if one more list or binding may be open.
 pub fn step_at(t: &[u8], at: usize, deeper: bool, printing: bool) -> Step
     ensures { λ r. ⌜ r ≡ stepAt (now (t .entry)) printing at deeper ⌝ }
 {
@@ -227,7 +232,7 @@ pub fn past(t: &[u8], at: usize) -> usize
     }
 }
 
-// The whole table: 1, then the first refusal in the order of its records. A tree that is missing is a record that the table's end cuts.
+// The whole table: 1, then the first refusal in the order of its records; a tree that is missing is told where its record was due.
 pub fn check(t: &[u8], printing: bool) -> Checked
     ensures { λ r. ⌜ verdictOf r ≡ judged (tableOf printing (now (t .entry))) ⌝ }
 {

@@ -4,7 +4,7 @@ use mathlib.Core.Bool.{Bool, true, false}
 use Prim.Native.Nat.{ℕ, _%_, _<_}
 use native.Mathlib.Omega.{arith}
 use Rattle.lexer.specs.declared.literal.Reading.{Reading}
-use Rattle.lexer.specs.declared.literal.Reading.the-variants.{Empty, Foreign, Over, Number}
+use Rattle.lexer.specs.declared.literal.Reading.the-variants.{Empty, Bad, Number}
 use Rattle.feeder.specs.declared.Half.{Half}
 use Rattle.feeder.specs.declared.Half.the-variants.{Clear, Semi, Paren}
 use Rattle.feeder.specs.declared.Mode.{Mode}
@@ -15,6 +15,11 @@ use Rattle.feeder.specs.declared.State.{State}
 use Rattle.tulbazhik_feed.specs.States.{packOf, packPhase, unpackOf, readingIn, modeIn, phaseIn}
 
 -- a radix and a refusal's number are a byte
+abbrev pub ReadingFits : Reading → Type 0
+ReadingFits Empty = Unit {0}
+ReadingFits (Bad d) = d .number < 256
+ReadingFits (Number n) = Unit {0}
+
 abbrev pub ModeFits : Mode → Type 0
 ModeFits Blank = Unit {0}
 ModeFits Line = Unit {0}
@@ -23,7 +28,7 @@ ModeFits (Symbol st) = Unit {0}
 ModeFits (Sign st) = Unit {0}
 ModeFits (Block st d h) = Unit {0}
 ModeFits (Zero st m) = Unit {0}
-ModeFits (Digits st m r x) = r < 256
+ModeFits (Digits st m r x) = (r < 256) × ReadingFits x
 
 abbrev pub PhaseFits : Phase → Type 0
 PhaseFits (Live m) = ModeFits m
@@ -41,20 +46,14 @@ unfolding unpackOf phaseIn modeIn readingIn
 back-zero st p true = refl
 back-zero st p false = refl
 
--- the radix comes back modulo 256
-cut-digits : (st p r : ℕ) (m : Bool) (x : Reading) → unpackOf (packPhase (Live (Digits st m r x)) p) ≡ record { phase = Live (Digits st m (r % 256) x); place = p }
+back-digits : (st p r : ℕ) (m : Bool) (x : Reading) → r < 256 → ReadingFits x → unpackOf (packPhase (Live (Digits st m r x)) p) ≡ record { phase = Live (Digits st m r x); place = p }
 unfolding unpackOf phaseIn modeIn readingIn
-cut-digits st p r true Empty = refl
-cut-digits st p r true Foreign = refl
-cut-digits st p r true Over = refl
-cut-digits st p r true (Number n) = refl
-cut-digits st p r false Empty = refl
-cut-digits st p r false Foreign = refl
-cut-digits st p r false Over = refl
-cut-digits st p r false (Number n) = refl
-
-back-digits : (st p r : ℕ) (m : Bool) (x : Reading) → r < 256 → unpackOf (packPhase (Live (Digits st m r x)) p) ≡ record { phase = Live (Digits st m r x); place = p }
-back-digits st p r m x h = let e : r % 256 ≡ r = omega arith in rw (cut-digits st p r m x, e) refl
+back-digits st p r true Empty h f = let e : r % 256 ≡ r = omega arith in rw e refl
+back-digits st p r false Empty h f = let e : r % 256 ≡ r = omega arith in rw e refl
+back-digits st p r true (Bad d) h f = let e : r % 256 ≡ r = omega arith in let g : d .number % 256 ≡ d .number = omega arith in rw (e, g) refl
+back-digits st p r false (Bad d) h f = let e : r % 256 ≡ r = omega arith in let g : d .number % 256 ≡ d .number = omega arith in rw (e, g) refl
+back-digits st p r true (Number n) h f = let e : r % 256 ≡ r = omega arith in rw e refl
+back-digits st p r false (Number n) h f = let e : r % 256 ≡ r = omega arith in rw e refl
 
 back-refused : (n a p : ℕ) → n < 256 → unpackOf (packPhase (Refused (record { number = n; place = a })) p) ≡ record { phase = Refused (record { number = n; place = a }); place = p }
 unfolding unpackOf phaseIn
@@ -69,7 +68,7 @@ back-phase (Live (Symbol st)) p h = refl
 back-phase (Live (Sign st)) p h = refl
 back-phase (Live (Block st d k)) p h = back-block st d p k
 back-phase (Live (Zero st m)) p h = back-zero st p m
-back-phase (Live (Digits st m r x)) p h = back-digits st p r m x h
+back-phase (Live (Digits st m r x)) p h = back-digits st p r m x (h .0) (h .1)
 back-phase Closed p h = refl
 back-phase (Refused r) p h = back-refused (r .number) (r .place) p h
 

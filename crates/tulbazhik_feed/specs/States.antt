@@ -5,7 +5,7 @@ use mathlib.Core.List.{List, [], _∷_}
 use lib.Dec.{eqb, ltb}
 use lib.ListN.{getD}
 use Rattle.lexer.specs.declared.literal.Reading.{Reading}
-use Rattle.lexer.specs.declared.literal.Reading.the-variants.{Empty, Foreign, Over, Number}
+use Rattle.lexer.specs.declared.literal.Reading.the-variants.{Empty, Bad, Number}
 use Rattle.feeder.specs.declared.Half.{Half}
 use Rattle.feeder.specs.declared.Half.the-variants.{Clear, Semi, Paren}
 use Rattle.feeder.specs.declared.Mode.{Mode}
@@ -26,9 +26,8 @@ halfWord Paren = 2
 -- a literal's digits at p, from a start, with a sign's word, in a radix
 abbrev pub packDigits : ℕ → ℕ → ℕ → ℕ → Reading → List ℕ
 packDigits p st m r Empty = 7 ∷ p ∷ st ∷ r ∷ m ∷ 0 ∷ 0 ∷ 0 ∷ []
-packDigits p st m r Foreign = 7 ∷ p ∷ st ∷ r ∷ m ∷ 1 ∷ 0 ∷ 0 ∷ []
-packDigits p st m r Over = 7 ∷ p ∷ st ∷ r ∷ m ∷ 2 ∷ 0 ∷ 0 ∷ []
-packDigits p st m r (Number n) = 7 ∷ p ∷ st ∷ r ∷ m ∷ 3 ∷ n .hi ∷ n .lo ∷ []
+packDigits p st m r (Bad d) = 7 ∷ p ∷ st ∷ r ∷ m ∷ 1 ∷ d .place ∷ d .number ∷ []
+packDigits p st m r (Number n) = 7 ∷ p ∷ st ∷ r ∷ m ∷ 2 ∷ n .hi ∷ n .lo ∷ []
 
 abbrev pub packMode : Mode → ℕ → List ℕ
 packMode Blank p = 0 ∷ p ∷ 0 ∷ 0 ∷ 0 ∷ 0 ∷ 0 ∷ 0 ∷ []
@@ -61,7 +60,8 @@ abbrev pub flagIn : ℕ → Bool
 flagIn m = cond (eqb m 0) false true
 
 unfoldable pub readingIn : ℕ → ℕ → ℕ → Reading
-readingIn k hi lo = cond (eqb k 0) Empty (cond (eqb k 1) Foreign (cond (eqb k 2) Over (Number (record { hi = hi; lo = lo }))))
+readingIn k hi lo =
+    cond (eqb k 0) Empty (cond (eqb k 1) (Bad (record { number = lo % 256; place = hi })) (Number (record { hi = hi; lo = lo })))
 
 unfoldable pub modeIn : ℕ → ℕ → ℕ → ℕ → Reading → Mode
 modeIn tag st d h x =

@@ -33,9 +33,11 @@ fn pack_digits(place: u64, start: u64, minus: u64, radix: u64, x: Reading) -> [u
 {
     match x {
         Reading::Empty => [7, place, start, radix, minus, 0, 0, 0],
-        Reading::Foreign => [7, place, start, radix, minus, 1, 0, 0],
-        Reading::Over => [7, place, start, radix, minus, 2, 0, 0],
-        Reading::Number(n) => [7, place, start, radix, minus, 3, n.hi, n.lo],
+        Reading::Bad(digit) => {
+            let number = digit.number as u64;
+            [7, place, start, radix, minus, 1, digit.place as u64, number]
+        }
+        Reading::Number(n) => [7, place, start, radix, minus, 2, n.hi, n.lo],
     }
 }
 
@@ -114,10 +116,10 @@ fn reading_in(k: u64, hi: u64, lo: u64) -> Reading
         return Reading::Empty;
     }
     if k == 1 {
-        return Reading::Foreign;
-    }
-    if k == 2 {
-        return Reading::Over;
+        return Reading::Bad(Refusal {
+            number: (lo % 256) as u8,
+            place: hi as usize,
+        });
     }
     Reading::Number(Limbs { hi, lo })
 }

@@ -12,11 +12,11 @@ use crate::numbers;
 ///
 /// let source = b"(rule\n  (f 12ab))";
 /// let error = tulbazhik::tokens(source).find_map(Result::err).expect("12ab has a foreign digit");
-/// assert_eq!((error.number, error.place), (numbers::FOREIGN_DIGIT, 11));
-/// assert_eq!(error.to_string(), "refusal 6 at 11: a digit is foreign to the literal's radix");
+/// assert_eq!((error.number, error.place), (numbers::FOREIGN_DIGIT, 13));
+/// assert_eq!(error.to_string(), "refusal 6 at 13: a digit is foreign to the literal's radix");
 /// assert_eq!(
 ///     error.within(source).to_string(),
-///     "refusal 6 at line 2, column 6: a digit is foreign to the literal's radix\n  |   (f 12ab))\n  |      ^\n",
+///     "refusal 6 at line 2, column 8: a digit is foreign to the literal's radix\n  |   (f 12ab))\n  |        ^\n",
 /// );
 /// ```
 #[derive(Clone, Copy, Debug, PartialEq, Eq)]

@@ -37,7 +37,7 @@ pub fn next_token(source: &[u8], at: usize) -> Result<Option<Token>, Error> {
 /// let source = b"(a 12ab)";
 /// let found: Vec<_> = tokens(source).collect();
 /// assert_eq!(&source[found[1]?.range()], b"a");
-/// assert_eq!(found[2], Err(Error { number: numbers::FOREIGN_DIGIT, place: 3 }));
+/// assert_eq!(found[2], Err(Error { number: numbers::FOREIGN_DIGIT, place: 5 }));
 /// assert_eq!(found.len(), 3);
 /// # Ok::<(), Error>(())
 /// ```

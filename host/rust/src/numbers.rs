@@ -26,6 +26,9 @@ pub const BAD_SYMBOL: u8 = 16;
 pub const LOWEST: u8 = 17;
 pub const PRINT_ROOM: u8 = 18;
 pub const FED_AFTER_CLOSE: u8 = 19;
+pub const UNKNOWN_KIND: u8 = 20;
+pub const WRONG_LENGTH: u8 = 21;
+pub const MISSING_TREES: u8 = 22;
 
 /// What a number says.
 pub fn meaning(number: u8) -> &'static str {
@@ -36,7 +39,7 @@ pub fn meaning(number: u8) -> &'static str {
         OPEN_COMMENT => "a block comment is still open at the end",
         NO_DIGITS => "a literal has no digits",
         FOREIGN_DIGIT => "a digit is foreign to the literal's radix",
-        TOO_LARGE => "a literal is above 2^128-1",
+        TOO_LARGE => "a digit takes the literal above 2^128-1",
         MINUS_LOWEST => "a minus stands before 2^127",
         NO_LIST_OPEN => "`)` with no list open",
         LIST_OPEN => "a list is still open at the end",
@@ -44,11 +47,14 @@ pub fn meaning(number: u8) -> &'static str {
         NO_TREE => "no tree follows a binding's `@`",
         TOO_DEEP => "more than 64 lists and bindings are open",
         TABLE_ROOM => "the table needs more room, in bytes",
-        BAD_RECORD => "a bad record, or trees are missing",
+        BAD_RECORD => "a record is cut short, or its length is below 6 or past the table",
         BAD_SYMBOL => "a symbol that the lexer would not read as one",
         LOWEST => "the integer -2^127 has no spelling to print",
         PRINT_ROOM => "the print needs more room, in bytes",
         FED_AFTER_CLOSE => "fed after a close",
+        UNKNOWN_KIND => "a record of unknown kind",
+        WRONG_LENGTH => "a record's length is wrong for its kind",
+        MISSING_TREES => "trees are missing at the table's end",
         _ => "unknown",
     }
 }

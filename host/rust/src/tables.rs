@@ -45,6 +45,10 @@ pub fn print_into(table: &[u8], width: u32, room: &mut [u8]) -> Result<usize, Er
 /// let table = tulbazhik::read(b"(rule (a b) c)")?;
 /// assert_eq!(tulbazhik::print(&table, 14)?, b"(rule (a b) c)\n");
 /// assert_eq!(tulbazhik::print(&table, 13)?, b"(rule\n    (a b)\n    c\n)\n");
+///
+/// // a table that the link cut off between two records
+/// let error = tulbazhik::print(&table[..table.len() - 7], 14).expect_err("an item is missing");
+/// assert_eq!(error.to_string(), "refusal 22 at 44: trees are missing at the table's end");
 /// # Ok::<(), tulbazhik::Error>(())
 /// ```
 pub fn print(table: &[u8], width: u32) -> Result<Vec<u8>, Error> {

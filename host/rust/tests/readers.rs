@@ -92,7 +92,7 @@ fn a_refusal_is_the_last_item() {
     let mut tokens = Feeder::new().tokens_from(&b"(a 12ab) b"[..]);
     assert!(matches!((tokens.next(), tokens.next()), (Some(Ok(_)), Some(Ok(_)))));
     let Some(Err(FeedError::Refused(error))) = tokens.next() else { panic!("12ab is refused") };
-    assert_eq!((error.number, error.place), (6, 3));
+    assert_eq!((error.number, error.place), (6, 5));
     assert!(tokens.next().is_none());
     assert!(tokens.next().is_none());
 }

@@ -3,10 +3,13 @@
 mod comments;
 mod limit;
 mod literals;
+mod masks;
 mod pieces;
 mod source_trees;
 mod tables;
 mod text;
+
+use std::collections::BTreeMap;
 
 use crate::answer::{Side, read};
 use crate::crate_side::CrateSide;
@@ -45,8 +48,8 @@ pub struct Cases {
     sample: bool,
     real: Vec<u8>,
     small: SmallTrees,
-    /// Document 01's own cases come first, unless families are chosen.
-    worked: Vec<Frame>,
+    /// The documents' own cases come first, by op, unless families are chosen.
+    worked: BTreeMap<u8, Vec<Frame>>,
 }
 
 impl Cases {
@@ -61,6 +64,13 @@ impl Cases {
             let names = weights.iter().filter(|(name, _)| chosen(name));
             names.flat_map(|(name, weight)| std::iter::repeat_n(*name, *weight)).collect()
         };
+        let mut worked = BTreeMap::<u8, Vec<Frame>>::new();
+        if families.is_empty() {
+            let masks = if sample { Vec::new() } else { masks::frames() };
+            for frame in worked::frames().into_iter().chain(masks) {
+                worked.entry(frame.op).or_default().push(frame);
+            }
+        }
         // a stored sample must not depend on a file that may be missing
         let real = if sample { Vec::new() } else { std::fs::read(REAL).unwrap_or_default() };
         Ok(Cases {
@@ -71,16 +81,16 @@ impl Cases {
             sample,
             real,
             small: SmallTrees::new(if sample { 4 } else { 7 }),
-            worked: if families.is_empty() { worked::frames() } else { Vec::new() },
+            worked,
         })
     }
 
     /// The case of this number, the same for a seed whatever other cases are run.
     pub fn frame(&self, op: u8, number: u64) -> Frame {
         let mut rng = Rng::of(&[self.seed, op as u64, number]);
-        let worked: Vec<&Frame> = self.worked.iter().filter(|frame| frame.op == op).collect();
+        let worked = self.worked.get(&op).map_or(&[][..], Vec::as_slice);
         if let Some(frame) = worked.get(number as usize) {
-            return (*frame).clone();
+            return frame.clone();
         }
         // what is put between takes no number from the families, so that an enumeration stays whole
         let mut number = number - worked.len() as u64;

@@ -1,7 +1,7 @@
 //! Document 01, "Feeding in pieces", told from the uncut tokens: what each call has to answer is
 //! decided by the byte that a token or a refusal waits for, so no byte is looked at here.
 
-use crate::document::lex::literal_len;
+use crate::document::lex::{digits_len, literal_len};
 use crate::drive::Feeder;
 use crate::token::{Answer, Kind, LIMIT, Lexed, Refusal, refusal};
 
@@ -35,6 +35,8 @@ impl FromTokens {
             let waits_for = match refusal.number {
                 3 => refusal.place,
                 4 => usize::MAX,
+                // a digit was refused, and the literal's end is waited for
+                6 | 7 => refusal.place + digits_len(&source[refusal.place..]),
                 _ => refusal.place + literal_len(&source[refusal.place..]),
             };
             events.push(Event { waits_for, consumed: waits_for, answer: Answer::Refused(refusal) });

@@ -1,5 +1,8 @@
 //! Document 01, "How source becomes tokens", over bytes of any kind.
 
+use std::num::IntErrorKind;
+use std::ops::Range;
+
 use crate::token::{Kind, Lexed, Refusal, Token, refusal};
 
 fn is_blank(byte: u8) -> bool {
@@ -52,8 +55,8 @@ fn next(source: &[u8], from: usize) -> Result<Option<Token>, Refusal> {
         b'@' => (Kind::At, 1),
         12 => return Err(refusal(3, start)),
         b'-' | b'0'..=b'9' => {
-            let (value, len) = literal(rest);
-            (Kind::Int(value.map_err(|number| refusal(number, start))?), len)
+            let value = literal(rest).map_err(|number| refusal(number, start + refused_at(rest, number)))?;
+            (Kind::Int(value), literal_len(rest))
         }
         _ => (Kind::Symbol, rest.iter().take_while(|byte| goes_on_in_symbol(**byte)).count()),
     };
@@ -99,11 +102,17 @@ fn comment(rest: &[u8]) -> Option<usize> {
     Some(at)
 }
 
-/// The integer or the number of its refusal, and the length of the whole spelling.
-fn literal(rest: &[u8]) -> (Result<i128, u32>, usize) {
-    let minus = rest[0] == b'-';
+/// A literal's parts: an optional sign, an optional prefix, then all that could be a digit.
+struct Spelling {
+    minus: bool,
+    radix: u32,
+    digits: Range<usize>,
+}
+
+fn spelling(bytes: &[u8]) -> Spelling {
+    let minus = bytes.starts_with(b"-");
     let mut at = minus as usize;
-    let radix = match &rest[at..] {
+    let radix = match &bytes[at..] {
         [b'0', b'x' | b'X', ..] => 16,
         [b'0', b'o' | b'O', ..] => 8,
         [b'0', b'b' | b'B', ..] => 2,
@@ -112,13 +121,47 @@ fn literal(rest: &[u8]) -> (Result<i128, u32>, usize) {
     if radix != 10 {
         at += 2;
     }
-    let digits: Vec<u8> = rest[at..]
-        .iter()
-        .copied()
-        .take_while(|byte| matches!(byte, b'0'..=b'9' | b'a'..=b'f' | b'A'..=b'F' | b'_'))
-        .collect();
-    let len = at + digits.len();
-    (number(&digits, radix).and_then(|n| signed(minus, n)), len)
+    Spelling { minus, radix, digits: at..at + digits_len(&bytes[at..]) }
+}
+
+/// The run of all that could be a literal's digit.
+pub fn digits_len(bytes: &[u8]) -> usize {
+    bytes.iter().take_while(|byte| byte.is_ascii_hexdigit() || **byte == b'_').count()
+}
+
+/// A literal's length, good or not.
+pub fn literal_len(bytes: &[u8]) -> usize {
+    spelling(bytes).digits.end
+}
+
+/// The place in a literal that its refusal names: of 6 and 7 the digit's, else its start. The digit is found by the Rust alone: it is
+/// the last of the shortest run of first digits that `from_str_radix` refuses so. It goes from the left, so that every longer run
+/// is refused so too, and the run is found by halves.
+pub fn refused_at(bytes: &[u8], number: u32) -> usize {
+    let kind = match number {
+        6 => IntErrorKind::InvalidDigit,
+        7 => IntErrorKind::PosOverflow,
+        _ => return 0,
+    };
+    let Spelling { radix, digits, .. } = spelling(bytes);
+    let refused_so = |end: usize| {
+        let run = bytes[digits.start..end].iter().filter(|byte| **byte != b'_');
+        let run: String = run.map(|byte| *byte as char).collect();
+        u128::from_str_radix(&run, radix).is_err_and(|error| *error.kind() == kind)
+    };
+    let (mut good, mut bad) = (digits.start, digits.end);
+    assert!(refused_so(bad), "the Rust does not refuse {bytes:?} so");
+    while good + 1 < bad {
+        let middle = good + (bad - good) / 2;
+        if refused_so(middle) { bad = middle } else { good = middle }
+    }
+    bad - 1
+}
+
+/// The integer, or the number of its refusal.
+fn literal(bytes: &[u8]) -> Result<i128, u32> {
+    let Spelling { minus, radix, digits } = spelling(bytes);
+    number(&bytes[digits], radix as u128).and_then(|n| signed(minus, n))
 }
 
 fn number(digits: &[u8], radix: u128) -> Result<u128, u32> {
@@ -143,16 +186,4 @@ fn signed(minus: bool, n: u128) -> Result<i128, u32> {
         return Err(8);
     }
     Ok(if minus { n.wrapping_neg() as i128 } else { n as i128 })
-}
-
-/// A literal's bytes, good or not: an optional sign, an optional prefix, then all that could be a digit.
-pub fn literal_len(bytes: &[u8]) -> usize {
-    let sign = bytes.starts_with(b"-") as usize;
-    let prefix = match &bytes[sign..] {
-        [b'0', b'x' | b'X' | b'o' | b'O' | b'b' | b'B', ..] => 2,
-        _ => 0,
-    };
-    let rest = &bytes[sign + prefix..];
-    let digits = rest.iter().take_while(|byte| byte.is_ascii_hexdigit() || **byte == b'_');
-    sign + prefix + digits.count()
 }

@@ -1,4 +1,4 @@
-//! Document 01's check of a table, record after record, with the items still due on a stack.
+//! The documents' check of a table, record after record, with the items still due on a stack.
 
 use crate::token::{Refusal, refusal};
 use crate::tree::{DEPTH, TABLE_LIMIT, Tree};
@@ -10,7 +10,7 @@ struct Open {
     due: usize,
 }
 
-/// Its trees, or the first refusal: in each record 15, 13, 16 and at printing 17, and missing trees at the end.
+/// Its trees, or the first refusal: in each record 15, 20, 21, 13, 16 and at printing 17, and 22 for missing trees at the end.
 pub fn trees(
     table: &[u8],
     printing: bool,
@@ -21,7 +21,7 @@ pub fn trees(
     }
     let (mut whole, mut open, mut at) = (Vec::new(), Vec::<Open>::new(), 0);
     while at < table.len() {
-        let (kind, payload) = record(&table[at..]).ok_or(refusal(15, at))?;
+        let (kind, payload) = record(&table[at..]).map_err(|number| refusal(number, at))?;
         if kind >= 3 && open.len() == DEPTH {
             return Err(refusal(13, at));
         }
@@ -39,21 +39,20 @@ pub fn trees(
         }
         at += payload.len() + 6;
     }
-    if open.is_empty() { Ok(whole) } else { Err(refusal(15, table.len())) }
+    if open.is_empty() { Ok(whole) } else { Err(refusal(22, table.len())) }
 }
 
-/// Kind and payload of the record at the front, unless it is bad.
-fn record(rest: &[u8]) -> Option<(u16, &[u8])> {
-    let head = rest.first_chunk::<6>()?;
+/// Kind and payload of the record at the front, or the number of its own refusal.
+fn record(rest: &[u8]) -> Result<(u16, &[u8]), u32> {
+    let head = rest.first_chunk::<6>().ok_or(15u32)?;
     let len = u32::from_le_bytes([head[0], head[1], head[2], head[3]]) as usize;
     let kind = u16::from_le_bytes([head[4], head[5]]);
-    let good = match kind {
-        1 | 3 => len >= 6,
-        2 => len == 22,
-        4 => len == 10,
-        _ => false,
-    };
-    if good && len <= rest.len() { Some((kind, &rest[6..len])) } else { None }
+    let payload = rest.get(6..len).ok_or(15u32)?;
+    match (kind, len) {
+        (1 | 3, _) | (2, 22) | (4, 10) => Ok((kind, payload)),
+        (2 | 4, _) => Err(21),
+        _ => Err(20),
+    }
 }
 
 /// Puts a complete tree where it belongs, and so on with what it completes.

@@ -73,7 +73,7 @@ impl Source<'_> {
     }
 }
 
-/// The trees of a table, or the first of 15, 13, 16 and at printing 17.
+/// The trees of a table, or the first of 15, 20, 21, 13, 16 and at printing 17; or 22 where a tree is due at the end.
 pub fn table_trees(table: &[u8], printing: bool) -> Result<Vec<Tree>, Refusal> {
     if table.len() > TABLE_LIMIT {
         return Err(refusal(1, TABLE_LIMIT));
@@ -89,18 +89,18 @@ fn table_tree(table: &[u8], printing: bool, at: &mut usize, depth: usize) -> Res
     let start = *at;
     let rest = &table[start..];
     if rest.len() < 6 {
-        return Err(refusal(15, start));
+        return Err(refusal(if rest.is_empty() { 22 } else { 15 }, start));
     }
     let word = |from: usize| (0..4).map(|i| (rest[from + i] as usize) << (8 * i)).sum::<usize>();
     let (len, kind) = (word(0), rest[4] as usize + 256 * rest[5] as usize);
-    let wrong = match kind {
-        1 | 3 => len < 6,
-        2 => len != 22,
-        4 => len != 10,
-        _ => true,
-    };
-    if wrong || len > rest.len() {
+    if len < 6 || len > rest.len() {
         return Err(refusal(15, start));
+    }
+    if kind == 0 || kind > 4 {
+        return Err(refusal(20, start));
+    }
+    if kind == 2 && len != 22 || kind == 4 && len != 10 {
+        return Err(refusal(21, start));
     }
     if (kind == 3 || kind == 4) && depth == DEPTH {
         return Err(refusal(13, start));

@@ -33,7 +33,8 @@ struct Literal {
     zero: bool,
     any: bool,
     value: u128,
-    fault: u32,
+    /// The first digit that was foreign (6) or too much (7), and its place.
+    fault: Option<Refusal>,
 }
 
 pub struct Machine {
@@ -53,7 +54,7 @@ impl Machine {
                 return Some(self.out(Kind::Symbol, start));
             }
             State::Paren if byte != b';' => return Some(self.out(Kind::Open, self.consumed - 1)),
-            State::Literal(literal) => match literal.grown(byte) {
+            State::Literal(literal) => match literal.grown(byte, self.consumed) {
                 Some(grown) => self.state = State::Literal(grown),
                 None => return Some(self.end_literal(literal)),
             },
@@ -93,17 +94,17 @@ impl Machine {
     }
 
     fn end_literal(&mut self, literal: Literal) -> Answer {
-        let number = match literal {
-            Literal { any: false, .. } => 5,
-            Literal { fault, .. } if fault != 0 => fault,
-            Literal { minus: true, value, .. } if value == 1 << 127 => 8,
+        let refusal = match literal {
+            Literal { any: false, start, .. } => refusal(5, start),
+            Literal { fault: Some(fault), .. } => fault,
+            Literal { minus: true, value, start, .. } if value == 1 << 127 => refusal(8, start),
             _ => {
                 let value = literal.value as i128;
                 let value = if literal.minus { 0i128.wrapping_sub(value) } else { value };
                 return self.out(Kind::Int(value), literal.start);
             }
         };
-        self.refuse(refusal(number, literal.start))
+        self.refuse(refusal)
     }
 }
 
@@ -120,12 +121,12 @@ fn in_block(opener: usize, open: usize, half: u8, byte: u8) -> State {
 impl Literal {
     fn begun(start: usize, byte: u8) -> Literal {
         let minus = byte == b'-';
-        let empty = Literal { start, minus, radix: 10, run: 0, zero: false, any: false, value: 0, fault: 0 };
-        if minus { empty } else { empty.grown(byte).expect("a digit belongs to a literal") }
+        let empty = Literal { start, minus, radix: 10, run: 0, zero: false, any: false, value: 0, fault: None };
+        if minus { empty } else { empty.grown(byte, start).expect("a digit belongs to a literal") }
     }
 
-    /// With one more byte, or None if the byte is not part of it.
-    fn grown(mut self, byte: u8) -> Option<Literal> {
+    /// With one more byte, the one at `place`, or None if the byte is not part of it.
+    fn grown(mut self, byte: u8, place: usize) -> Option<Literal> {
         let prefix = match byte | 32 {
             b'x' => 16,
             b'o' => 8,
@@ -142,13 +143,13 @@ impl Literal {
         }
         let digit = (byte as char).to_digit(16)? as u128;
         self.any = true;
-        if self.fault == 0 && digit >= self.radix {
-            self.fault = 6;
+        if self.fault.is_none() && digit >= self.radix {
+            self.fault = Some(refusal(6, place));
         }
-        if self.fault == 0 {
+        if self.fault.is_none() {
             match self.value.checked_mul(self.radix).and_then(|value| value.checked_add(digit)) {
                 Some(value) => self.value = value,
-                None => self.fault = 7,
+                None => self.fault = Some(refusal(7, place)),
             }
         }
         Some(self)

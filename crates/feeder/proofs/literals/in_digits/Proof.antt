@@ -1,5 +1,5 @@
 -- `feeder::literals::in_digits`: at each place, what is left of the call is what was left at the start.
-use Prim.Native.Nat.{_-_, _≤_}
+use Prim.Native.Nat.{_+_, _-_, _≤_}
 use mathlib.Core.Path.{_≡_, refl, sym, _∙_}
 use native.Mathlib.Omega.{arith}
 use lib.ListN.{getD}
@@ -26,6 +26,9 @@ shared-slice-read-b c = omega arith
 is-literal-byte-requires : tie.Need-is-literal-byte-requires Inv-loop μ-loop
 is-literal-byte-requires c κs = tt
 
+add-grow : tie.Need-add-grow Inv-loop μ-loop
+add-grow c = omega arith
+
 grow-requires : tie.Need-grow-requires Inv-loop μ-loop
 grow-requires c κs = tt
 
@@ -43,7 +46,7 @@ loop-again c =
     let f = sym (c .before .before .is-literal-byte .ensures) ∙ c .before .if1 .taken in (
       omega arith,
       omega arith,
-      rw (c .grow .ensures) (sym (call-go (now (a .piece)) (a .place) (t .loop .j) (Digits (a .start) (a .minus) (a .radix) (t .loop .x)) (omega arith) (omega arith) (Digits (a .start) (a .minus) (a .radix) (grow (a .radix) (t .loop .x) (getD (now (a .piece)) (t .loop .j) 0))) (rw f refl)) ∙ t .loop .inv .2),
+      rw (c .grow .ensures) (sym (call-go (now (a .piece)) (a .place) (t .loop .j) (Digits (a .start) (a .minus) (a .radix) (t .loop .x)) (omega arith) (omega arith) (Digits (a .start) (a .minus) (a .radix) (grow (a .radix) (t .loop .x) (getD (now (a .piece)) (t .loop .j) 0) (a .place + t .loop .j))) (rw f refl)) ∙ t .loop .inv .2),
     )
 
 add-concluded : tie.Need-add-concluded Inv-loop μ-loop
@@ -78,6 +81,7 @@ in-digits-spec =
     loop-holds
     shared-slice-read-b
     is-literal-byte-requires
+    add-grow
     grow-requires
     add-j
     loop-less

@@ -15,11 +15,11 @@ shared-slice-read-b c = search needs
 is-literal-byte-requires : tie.Need-is-literal-byte-requires
 is-literal-byte-requires c κs = search needs
 
+add-begun-by : tie.Need-add-begun-by
+add-begun-by c = search needs
+
 begun-by-requires : tie.Need-begun-by-requires
 begun-by-requires c κs = search needs
-
-add-t11 : tie.Need-add-t11
-add-t11 c = search needs
 
 returns : tie.Need-returns
 unfolding turn
@@ -41,7 +41,8 @@ in-sign-spec =
     (tie.spec
     shared-slice-read-b
     is-literal-byte-requires
+    add-begun-by
     begun-by-requires
-    add-t11
+    (λ c. search needs)
     returns
     returns-2)

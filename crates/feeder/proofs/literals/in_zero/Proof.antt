@@ -1,4 +1,5 @@
 -- `feeder::literals::in_zero`: a prefix, a digit after a leading `0`, or the end of the literal.
+use Prim.Native.Nat.{_+_}
 use mathlib.Core.Path.{_≡_, refl, sym, _∙_}
 use mathlib.Core.Bool.{false}
 use native.Mathlib.Omega.{arith}
@@ -24,11 +25,11 @@ radix-of-requires c κs = search needs
 is-literal-byte-requires : tie.Need-is-literal-byte-requires
 is-literal-byte-requires c κs = search needs
 
+add-grow : tie.Need-add-grow
+add-grow c = search needs
+
 grow-requires : tie.Need-grow-requires
 grow-requires c κs = search needs
-
-add-t17 : tie.Need-add-t17
-add-t17 c = search needs
 
 returns : tie.Need-returns
 unfolding turn val
@@ -36,7 +37,7 @@ returns c =
     let a = c .before .before .before .before .before .before .before .args in
     let f : radixOf 48 (getD (now (a .piece)) (a .i) 0) ≡ 10 = sym (c .before .before .before .before .radix-of .ensures) ∙ c .before .before .before .if1 .taken in
     let g = sym (c .before .before .is-literal-byte .ensures) ∙ c .before .if2 .taken in
-    ((omega arith, omega arith), rw (c .grow .ensures) (sym (call-go (now (a .piece)) (a .place) (a .i) (Zero (a .start) (a .minus)) (omega arith) (omega arith) (Digits (a .start) (a .minus) 10 (grow 10 (Number (split 0)) (getD (now (a .piece)) (a .i) 0))) (rw (eq-eqb _ _ f, g) refl))))
+    ((omega arith, omega arith), rw (c .grow .ensures) (sym (call-go (now (a .piece)) (a .place) (a .i) (Zero (a .start) (a .minus)) (omega arith) (omega arith) (Digits (a .start) (a .minus) 10 (grow 10 (Number (split 0)) (getD (now (a .piece)) (a .i) 0) (a .place + a .i))) (rw (eq-eqb _ _ f, g) refl))))
 
 add-concluded : tie.Need-add-concluded
 add-concluded c = search needs
@@ -58,9 +59,6 @@ returns-2 c =
       sym (call-ends (now (a .piece)) (a .place) (a .i) (Zero (a .start) (a .minus)) (omega arith) (omega arith) (c .before .concluded .result) _ (c .before .concluded .ensures) (rw (eq-eqb _ _ f, g) refl)),
     )
 
-add-t22 : tie.Need-add-t22
-add-t22 c = search needs
-
 returns-3 : tie.Need-returns-3
 unfolding turn
 returns-3 c =
@@ -75,12 +73,13 @@ in-zero-spec =
     shared-slice-read-b
     radix-of-requires
     is-literal-byte-requires
+    add-grow
     grow-requires
-    add-t17
+    (λ c. search needs)
     returns
     add-concluded
     concluded-requires
     ended-requires
     returns-2
-    add-t22
+    (λ c. search needs)
     returns-3)

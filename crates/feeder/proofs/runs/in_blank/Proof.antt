@@ -140,8 +140,8 @@ returns-6 c =
 enum-told-9 : tie.Need-enum-told-9 Inv-loop μ-loop
 enum-told-9 c = search needs
 
-add-begun-by : tie.Need-add-begun-by Inv-loop μ-loop
-add-begun-by c = omega arith
+add-start : tie.Need-add-start Inv-loop μ-loop
+add-start c = omega arith
 
 begun-by-requires : tie.Need-begun-by-requires Inv-loop μ-loop
 begun-by-requires c κs = tt
@@ -150,7 +150,7 @@ returns-7 : tie.Need-returns-7 Inv-loop μ-loop
 unfolding turn
 returns-7 c =
     let u = c .before .before .before in
-    ((omega arith, omega arith), rw (c .begun-by .ensures) (sym (call-go (Q u) (P u) (J u) Blank (lt u) (below u) (begun (P u + J u) false (getD (Q u) (J u) 0)) (rw (told u ∙ c .before .enum-told9 .given .1) refl)) ∙ kept u))
+    ((omega arith, omega arith), rw (c .begun-by .ensures) (sym (call-go (Q u) (P u) (J u) Blank (lt u) (below u) (begun (P u + J u) false (P u + J u) (getD (Q u) (J u) 0)) (rw (told u ∙ c .before .enum-told9 .given .1) refl)) ∙ kept u))
 
 enum-told-10 : tie.Need-enum-told-10 Inv-loop μ-loop
 enum-told-10 c = search needs
@@ -205,7 +205,7 @@ in-blank-spec =
     (λ c. omega arith)
     returns-6
     enum-told-9
-    add-begun-by
+    add-start
     begun-by-requires
     (λ c. omega arith)
     returns-7

@@ -11,7 +11,7 @@ use Rattle.lexer.proofs.literal.digits_from.Tie as tie
 
 abbrev Inv-loop : tie.InvT-loop
 Inv-loop src at radix i₀ x₀ i x =
-    (reading radix x (drop i src) ≡ reading radix Empty (drop at src)) × (literalEnd (drop i src) i ≡ literalEnd (drop at src) at)
+    (reading radix x (drop i src) i ≡ reading radix Empty (drop at src) at) × (literalEnd (drop i src) i ≡ literalEnd (drop at src) at)
 
 abbrev μ-loop : tie.MeasureT-loop
 μ-loop src at radix i₀ x₀ i x = length src - i

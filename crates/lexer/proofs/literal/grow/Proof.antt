@@ -19,14 +19,11 @@ enum-told c = search needs
 taken-requires : tie.Need-taken-requires
 taken-requires c κs = search needs
 
-enum-told-2 : tie.Need-enum-told-2
-enum-told-2 c = search needs
-
-enum-told-3 : tie.Need-enum-told-3
-enum-told-3 c = search needs
-
 enum-known-x : tie.Need-enum-known-x
 enum-known-x c = search needs
+
+enum-known-x-2 : tie.Need-enum-known-x-2
+enum-known-x-2 c = search needs
 
 taken-requires-2 : tie.Need-taken-requires-2
 taken-requires-2 c κs = search needs
@@ -37,15 +34,11 @@ returns-2 c = let a = c .before .before .before in simp (c .taken .ensures, c .b
 
 returns-3 : tie.Need-returns-3
 unfolding grow
-returns-3 c = let a = c .before .before in simp (c .enum-told2 .given .1, ne-eqb _ _ (a .before .if1 .left))
+returns-3 c = let a = c .before .before .before in simp (c .before .x .given .1, ne-eqb _ _ (a .before .if1 .left))
 
 returns-4 : tie.Need-returns-4
 unfolding grow
-returns-4 c = let a = c .before .before in simp (c .enum-told3 .given .1, ne-eqb _ _ (a .before .if1 .left))
-
-returns-5 : tie.Need-returns-5
-unfolding grow
-returns-5 c = let a = c .before .before .before .before in simp (c .taken2 .ensures, c .before .before .x .given .1, ne-eqb _ _ (a .before .if1 .left), a .digit-of .ensures)
+returns-4 c = let a = c .before .before .before .before in simp (c .taken2 .ensures, c .before .before .x2 .given .1, ne-eqb _ _ (a .before .if1 .left), a .digit-of .ensures)
 
 pub grow-spec : {M : Type 1} → statement M
 grow-spec =
@@ -55,11 +48,9 @@ grow-spec =
     digit-of-requires
     enum-told
     taken-requires
-    enum-told-2
-    enum-told-3
     enum-known-x
+    enum-known-x-2
     taken-requires-2
     returns-2
     returns-3
-    returns-4
-    returns-5)
+    returns-4)

@@ -17,9 +17,5 @@ returns-3 : tie.Need-returns-3
 unfolding readingIn
 returns-3 c = search (needs, eq-eqb, ne-eqb, lt-ltb, le-ltb, lt-leb, le-leb)
 
-returns-4 : tie.Need-returns-4
-unfolding readingIn
-returns-4 c = search (needs, eq-eqb, ne-eqb, lt-ltb, le-ltb, lt-leb, le-leb)
-
 pub reading-in-spec : {M : Type 1} → statement M
-reading-in-spec = tie.close (tie.spec returns returns-2 returns-3 returns-4)
+reading-in-spec = tie.close (tie.spec returns (λ c. search needs) returns-2 returns-3)
