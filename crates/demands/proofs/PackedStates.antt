@@ -1,20 +1,21 @@
 -- THEOREM packed-states: every state that a feeder can be in comes back from its words, so that the words a host keeps mean the state. Assumes nothing.
 use mathlib.Core.Bool.{Bool, true, false, _||_}
 use mathlib.Core.List.{List, [], _∷_}
-use Prim.Native.Nat.{ℕ, suc, _+_, _*_, _^_, _<_}
+use Prim.Native.Nat.{ℕ, suc, _<_}
 use native.Mathlib.Omega.{arith}
-use lib.Dec.{eqb, leb, ltb}
+use lib.Dec.{eqb, leb}
 use Rattle.lists.proofs.Choice.{pick}
 use Rattle.refusals.specs.Numbers.{sourceLimit}
 use Rattle.refusals.specs.Result.{Result, ok, refused}
 use Rattle.classes.specs.declared.Class.{Class}
 use Rattle.classes.specs.declared.Class.the-variants.{Space, LineEnd, Semicolon, LParen, RParen, AtSign, FormFeed, Minus, Digit, Other}
-use Rattle.classes.specs.Classes.{classOf, lineEnd, semicolon, rparen, symbolOther, digitOf, literalByte}
-use Rattle.wide.specs.Value.{split, val, grown, Integer, is as integer, none as noInteger, integerOf}
+use Rattle.classes.specs.Classes.{classOf, lineEnd, semicolon, rparen, symbolOther, literalByte}
+use Rattle.wide.specs.Value.{split, val, Integer, is as integer, none as noInteger, integerOf}
 use Rattle.lexer.specs.declared.literal.Reading.{Reading}
 use Rattle.lexer.specs.declared.literal.Reading.the-variants.{Empty, Bad, Number}
 use Rattle.lexer.specs.Tokens.{Answer, end, is}
-use Rattle.lexer.specs.Literals.{grew, taken, digit, grow, radixOf, signed, concluded}
+use Rattle.lexer.specs.Literals.{grow, radixOf, signed, concluded}
+use Rattle.lexer.proofs.Digits.{of-grow}
 use Rattle.feeder.specs.declared.Half.{Half}
 use Rattle.feeder.specs.declared.Half.the-variants.{Clear, Semi, Paren}
 use Rattle.feeder.specs.declared.Mode.{Mode}
@@ -52,22 +53,8 @@ concluded-fits minus st e Empty h = omega arith
 concluded-fits minus st e (Bad d) h = h
 concluded-fits minus st e (Number n) h = signed-fits st e (integerOf minus (val n))
 
-grown-fits : (v p : ℕ) → ReadingFits (grew (grown v) p)
-unfolding grown
-grown-fits v p = pick (λ g. ReadingFits (grew g p)) (ltb v (2 ^ 128)) (λ _. tt) (λ _. omega arith)
-
-taken-fits : (r n d p : ℕ) → ReadingFits (taken r n d p)
-unfolding taken
-taken-fits r n d p = pick ReadingFits (leb r d) (λ _. omega arith) (λ _. grown-fits (n * r + d) p)
-
 grow-fits : (r : ℕ) (x : Reading) (b p : ℕ) → ReadingFits x → ReadingFits (grow r x b p)
-unfolding grow
-grow-fits r x b p h = pick ReadingFits (eqb b 95) (λ _. h) (λ _. by x h)
-  where
-    by : (x : Reading) → ReadingFits x → ReadingFits (digit r x (digitOf b) p)
-    by Empty h = taken-fits r 0 (digitOf b) p
-    by (Bad q) h = h
-    by (Number n) h = taken-fits r (val n) (digitOf b) p
+grow-fits r x b p h = of-grow ReadingFits p (λ v l. tt) (omega arith) (omega arith) r x b h
 
 ends-fits : (a : Answer) → AnswerFits a → TurnFits (endedBy a)
 unfolding AnswerFits TurnFits

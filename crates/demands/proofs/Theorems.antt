@@ -1,5 +1,7 @@
 -- All theorems, by name. Assumes nothing.
+use Rattle.lexer.proofs.DigitPlaces as lexer-digits
 use Rattle.table.proofs.Whole as table
+use Rattle.table.proofs.Faults as table-faults
 use Rattle.reader.proofs.ReadGood as reader-good
 use Rattle.reader.proofs.ReadTokens as reader-tokens
 use Rattle.reader.proofs.ReadAccepts as reader-accepts
@@ -20,6 +22,8 @@ theorems = record {
   one-answer-doors = the-doors.one-answer-doors;
   worked = the-cases.worked;
   wrong-programs = the-wrong.wrong-programs;
+  digit-named = lexer-digits.digit-named;
+  fault-placed = table-faults.fault-placed;
   sound = table.sound;
   complete = table.complete;
   read-good = reader-good.read-good;

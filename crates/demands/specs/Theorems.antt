@@ -7,10 +7,12 @@ use lib.ListN.{length}
 use Rattle.refusals.specs.Numbers.{tableLimit, depthLimit}
 use Rattle.refusals.specs.Result.{ok}
 use Rattle.wide.specs.Bytes.{Bytes}
+use Rattle.lexer.specs.DigitPlaces.{DigitNamed}
 use Rattle.table.specs.Trees.{Trees, Goods, recordsOf}
 use Rattle.table.specs.Decoding.{found, tableOf}
 use Rattle.table.specs.Printable.{Printables}
 use Rattle.table.specs.Accepted.{Accepted}
+use Rattle.table.specs.Faults.{FaultPlaced}
 use Rattle.reader.specs.Promised.{ReadGood, ReadTokens, ReadAccepts}
 use Rattle.demands.specs.OneAnswer.{OneAnswer}
 use Rattle.demands.specs.OneAnswerDoors.{OneAnswerDoors}
@@ -28,6 +30,9 @@ pub record Theorems : Type 0 where
   -- Demand 2: tokens and layout are defined by the rules, and reading and printing refuse exactly when document 01 says. Its worked cases, and the wrong programs:
   pub worked : Worked
   pub wrong-programs : WrongPrograms
+  -- the digit that a literal is refused for is the first such one from the left; 22 and no other fault of a table is told at its length
+  pub digit-named : DigitNamed
+  pub fault-placed : FaultPlaced
   -- a table that is accepted is the records of good trees, and the records of good trees are accepted; w says that the table is to be printed
   pub sound : (w : Bool) (t : List ℕ) (xs : Trees) (q : ℕ) → Bytes t → tableOf w t ≡ ok (found xs q) → Accepted w t xs q
   pub complete : (w : Bool) (xs : Trees) → Goods xs depthLimit → (w ≡ true → Printables xs) → length (recordsOf xs) ≤ tableLimit

@@ -1,16 +1,16 @@
 -- THEOREM digit-named: a literal that is refused for a digit names the first such digit from the left. Assumes nothing.
-use Prim.Native.Nat.{ℕ, suc, _+_, _-_, _*_, _^_}
+use Prim.Native.Nat.{ℕ, suc, _-_}
 use mathlib.Core.Path.{_≡_, refl, sym, ap, subst, _∙_}
 use mathlib.Core.List.{List, [], _∷_}
 use mathlib.Core.Bool.{Bool, true, false, cond}
 use native.Mathlib.Omega.{arith}
-use lib.Dec.{eqb, leb, ltb}
+use lib.Dec.{eqb}
 use Rattle.lists.proofs.Choice.{pick}
 use Rattle.refusals.specs.declared.Refusal.{Refusal}
-use Rattle.classes.specs.Classes.{digitOf, literalByte}
-use Rattle.wide.specs.Value.{val, grown}
+use Rattle.classes.specs.Classes.{literalByte}
 use Rattle.lexer.specs.DigitPlaces.{Unrefused, Named, DigitNamed}
-use Rattle.lexer.specs.Literals.{Reading, Empty, Bad, Number, grew, taken, digit, grow, reading}
+use Rattle.lexer.proofs.Digits.{of-grow}
+use Rattle.lexer.specs.Literals.{Reading, Empty, Bad, Number, grow, reading}
 
 -- ---- a digit that is refused is refused at its place
 
@@ -19,27 +19,13 @@ Placed i Empty = Unit {0}
 Placed i (Bad q) = q .place ≡ i
 Placed i (Number n) = Unit {0}
 
-placed-grown : (v i : ℕ) → Placed i (grew (grown v) i)
-unfolding grown
-placed-grown v i = pick (λ g. Placed i (grew g i)) (ltb v (2 ^ 128)) (λ _. tt) (λ _. refl)
-
-placed-taken : (r n d i : ℕ) → Placed i (taken r n d i)
-unfolding taken
-placed-taken r n d i = pick (Placed i) (leb r d) (λ _. refl) (λ _. placed-grown (n * r + d) i)
-
 placed-kept : (x : Reading) (i : ℕ) → Unrefused x → Placed i x
 placed-kept Empty i g = tt
 placed-kept (Bad q) i g = absurd g
 placed-kept (Number n) i g = tt
 
-placed-digit : (r : ℕ) (x : Reading) (d i : ℕ) → Unrefused x → Placed i (digit r x d i)
-placed-digit r Empty d i g = placed-taken r 0 d i
-placed-digit r (Bad q) d i g = absurd g
-placed-digit r (Number n) d i g = placed-taken r (val n) d i
-
 placed : (r : ℕ) (x : Reading) (b i : ℕ) → Unrefused x → Placed i (grow r x b i)
-unfolding grow
-placed r x b i g = pick (Placed i) (eqb b 95) (λ _. placed-kept x i g) (λ _. placed-digit r x (digitOf b) i g)
+placed r x b i g = of-grow (Placed i) i (λ v l. tt) refl refl r x b (placed-kept x i g)
 
 -- ---- and stays refused
 

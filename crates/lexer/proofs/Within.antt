@@ -1,11 +1,11 @@
 -- THEOREMS: a token lies within the source (`within`), and of two integers in a row the second does not follow the first at once in one byte (`apart`).
-use Prim.Native.Nat.{ℕ, zero, suc, _+_, _*_, _-_, _%_, _^_, _≤_, _<_}
+use Prim.Native.Nat.{ℕ, zero, suc, _+_, _-_, _%_, _^_, _≤_, _<_}
 use mathlib.Core.Path.{_≡_, refl, sym, ap, subst, _∙_}
 use mathlib.Core.List.{List, [], _∷_}
 use mathlib.Core.Bool.{Bool, true, false, cond}
 use native.Mathlib.Nat.{mod-lt}
 use native.Mathlib.Omega.{arith}
-use lib.Dec.{eqb, leb, ltb, lit<}
+use lib.Dec.{eqb, ltb, lit<}
 use lib.IntN.{ℤ}
 use lib.ListN.{length, getD, drop, length-drop}
 use lib.Seq.{drop-drop}
@@ -21,10 +21,11 @@ use Rattle.classes.specs.declared.Class.{Class}
 use Rattle.classes.specs.declared.Class.the-variants.{Space, LineEnd, Semicolon, LParen, RParen, AtSign, FormFeed, Minus, Digit, Other}
 use Rattle.classes.specs.Classes.{classOf, digitOf, literalByte, symbolOther}
 use Rattle.classes.proofs.Firsts.{digit-literal}
-use Rattle.wide.specs.Value.{val, grown, Integer, is as isInteger, none as noInteger, integerOf}
+use Rattle.wide.specs.Value.{val, Integer, is as isInteger, none as noInteger, integerOf}
 use Rattle.wide.proofs.TwoLimbs.{split-val}
 use Rattle.lexer.specs.Tokens.{Kind, lparen, rparen, at-sign, symbol, int, Token, token, past, Answer, end, is}
-use Rattle.lexer.specs.Literals.{Reading, Empty, Bad, Number, grew, taken, digit, grow, reading, literalEnd, radixOf, signed, concluded, digitsIn, unsignedIn}
+use Rattle.lexer.specs.Literals.{Reading, Empty, Bad, Number, grow, reading, literalEnd, radixOf, signed, concluded, digitsIn, unsignedIn}
+use Rattle.lexer.proofs.Digits.{of-grow}
 use Rattle.lexer.specs.Lexing.{Skip, Between, InLine, InBlock, Skipping, Stop, One, Two, skip, symbolEnd, tokenIn, skipped, lexIn, lexAt, nextToken}
 
 -- by the kind of a token that starts at st and has n bytes: one byte; a symbol's run; an integer in range that the next byte does not go on, and that has two
@@ -105,22 +106,8 @@ Small Empty = Unit {0}
 Small (Bad r) = Unit {0}
 Small (Number n) = val n < 2 ^ 128
 
-small-grown : (v p : ℕ) → Small (grew (grown v) p)
-unfolding grown
-small-grown v p = pick (λ g. Small (grew g p)) (ltb v (2 ^ 128)) (λ e. subst (λ (m : ℕ). m < 2 ^ 128) (sym (split-val v)) (ltb-true v (2 ^ 128) e)) (λ e. tt)
-
-small-taken : (r n d p : ℕ) → Small (taken r n d p)
-unfolding taken
-small-taken r n d p = pick Small (leb r d) (λ e. tt) (λ e. small-grown (n * r + d) p)
-
 small-grow : (r : ℕ) (x : Reading) (b p : ℕ) → Small x → Small (grow r x b p)
-unfolding grow
-small-grow r x b p h = pick Small (eqb b 95) (λ e. h) (λ e. by x)
-  where
-    by : (x : Reading) → Small (digit r x (digitOf b) p)
-    by Empty = small-taken r 0 (digitOf b) p
-    by (Bad q) = tt
-    by (Number n) = small-taken r (val n) (digitOf b) p
+small-grow r x b p h = of-grow Small p (λ v l. subst (λ (m : ℕ). m < 2 ^ 128) (sym (split-val v)) l) tt tt r x b h
 
 small-reading : (r : ℕ) (l : List ℕ) (x : Reading) (i : ℕ) → Small x → Small (reading r x l i)
 unfolding reading

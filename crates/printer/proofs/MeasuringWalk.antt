@@ -91,7 +91,7 @@ module _ (t : List ℕ) (d at : ℕ) (s : Step) (e : s ≡ stepAt t true at (ltb
   to s′ e′ k = subst⁻¹ (λ (v : Result (Found Tree)). Sized v w i c r) (step-tree t true d at s s′ e e′) k
 
   pub at-fault : (n : ℕ) → s ≡ step.Fault n → (r .number ≡ n) × (r .place ≡ at) → Sized (treeAt t true d at) w i c r
-  at-fault n e′ k = to (step.Fault n) e′ (k .0, step-in t true d at s (step.Fault n) e e′, k .1)
+  at-fault n e′ k = to (step.Fault n) e′ (k .0, step-in t true d at s (step.Fault n) e e′ .0, k .1)
 
   pub at-symbol : (len : ℕ) → s ≡ step.Symbol len → r ≡ record { number = 0; place = at + len; cost = len - headLen; empty = 0; len = len - headLen }
       → Sized (treeAt t true d at) w i c r

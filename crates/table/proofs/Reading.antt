@@ -6,8 +6,8 @@ use Prim.Native.Nat.{ℕ, zero, suc, _+_, _-_, _≤_, _<_}
 use native.Mathlib.Omega.{arith}
 use lib.ListN.{length}
 use lib.Dec.{ltb, eqb, lit<}
-use borrow.Author.Tests.{lt-ltb, le-ltb, ltb-true, eqb-true}
-use Rattle.refusals.specs.Numbers.{tooDeep, badRecord, missingTrees}
+use borrow.Author.Tests.{lt-ltb, le-ltb, ltb-true, ltb-false, eqb-true}
+use Rattle.refusals.specs.Numbers.{tooDeep, badRecord, badSymbol, lowest, unknownKind, wrongLength, missingTrees}
 use Rattle.lists.proofs.Choice.{pick}
 use Rattle.wide.specs.Bytes.{numberAt}
 use Rattle.refusals.specs.Result.{Result, ok, refused}
@@ -21,13 +21,20 @@ use Rattle.table.specs.Records.{Record, Symbol, Integer, Binding, ListOf
 use Rattle.table.specs.Decoding.{Found, found, andThen, itemsAt, isLowest, Step, stepOf, stepAt, ofStep, treeAt}
 use Rattle.table.specs.declared.Step.the-variants as step
 
+-- the fault of a record that is due where so many bytes are left: 22 if none is, and another one if some are
+abbrev pub FaultIn : ℕ → ℕ → Type 0
+FaultIn left n = (0 < n) × (n ≡ missingTrees → left ≡ 0) × (left ≡ 0 → n ≡ missingTrees)
+
+fault-of : (left n : ℕ) → 0 < left → 0 < n → (n ≡ missingTrees → ⊥) → FaultIn left n
+fault-of left n l h g = (h, λ e. absurd (g e), λ e. absurd (omega arith))
+
 -- what each record says of the bytes left, its length, its kind and its item count
 abbrev pub RecordIn : ℕ → ℕ → ℕ → ℕ → Record → Type 0
 RecordIn left len kind items (Symbol l) = (l ≡ len) × (kind ≡ symbolKind) × (headLen ≤ l) × (l ≤ left)
 RecordIn left len kind items Integer = (len ≡ integerLen) × (kind ≡ integerKind) × (integerLen ≤ left)
 RecordIn left len kind items (Binding l) = (l ≡ len) × (kind ≡ bindingKind) × (headLen ≤ l) × (l ≤ left)
 RecordIn left len kind items (ListOf n) = (n ≡ items) × (len ≡ listLen) × (kind ≡ listKind) × (listLen ≤ left)
-RecordIn left len kind items (Bad n) = 0 < n
+RecordIn left len kind items (Bad n) = FaultIn left n
 
 abbrev pub RecordAt : List ℕ → ℕ → Record → Type 0
 RecordAt t at = RecordIn (length t - at) (lenAt t at) (kindAt t at) (numberAt 4 t (at + headLen))
@@ -37,19 +44,23 @@ kind-in left len items few most kind =
     let P : Record → Type 0 = RecordIn left len kind items in
     pick P (eqb kind symbolKind) (λ e. (refl, eqb-true kind symbolKind e, few, most)) (λ _.
     pick P (eqb kind integerKind)
-    (λ e. pick P (eqb len integerLen) (λ f. (eqb-true len integerLen f, eqb-true kind integerKind e, omega (arith, eqb-true len integerLen f))) (λ _. lit< tt)) (λ _.
+    (λ e. pick P (eqb len integerLen) (λ f. (eqb-true len integerLen f, eqb-true kind integerKind e, omega (arith, eqb-true len integerLen f)))
+    (λ _. fault-of left wrongLength (omega arith) (lit< tt) (λ g. omega arith))) (λ _.
     pick P (eqb kind bindingKind) (λ e. (refl, eqb-true kind bindingKind e, few, most)) (λ _.
     pick P (eqb kind listKind)
-    (λ e. pick P (eqb len listLen) (λ f. (refl, eqb-true len listLen f, eqb-true kind listKind e, omega (arith, eqb-true len listLen f))) (λ _. lit< tt))
-    (λ _. lit< tt))))
+    (λ e. pick P (eqb len listLen) (λ f. (refl, eqb-true len listLen f, eqb-true kind listKind e, omega (arith, eqb-true len listLen f)))
+    (λ _. fault-of left wrongLength (omega arith) (lit< tt) (λ g. omega arith)))
+    (λ _. fault-of left unknownKind (omega arith) (lit< tt) (λ g. omega arith)))))
 
 pub record-in : (t : List ℕ) (at : ℕ) → RecordAt t at (recordAt t at)
 unfolding recordAt
-record-in t at = pick (RecordAt t at) (ltb at (length t)) (λ _. by (headAt t at) (head-in t at)) (λ _. lit< tt)
+record-in t at =
+    pick (RecordAt t at) (ltb at (length t)) (λ e. by (ltb-true at (length t) e) (headAt t at) (head-in t at))
+    (λ e. let g = ltb-false at (length t) e in (lit< tt, λ _. omega arith, λ _. refl))
   where
-    by : (x : Head) → HeadIn t at x → RecordAt t at (recordOf x (numberAt 4 t (at + headLen)))
-    by Cut h = lit< tt
-    by (Is kind len) h =
+    by : at < length t → (x : Head) → HeadIn t at x → RecordAt t at (recordOf x (numberAt 4 t (at + headLen)))
+    by l Cut h = fault-of (length t - at) badRecord (omega arith) (lit< tt) (λ g. omega arith)
+    by l (Is kind len) h =
         rw (h .0, h .1) (kind-in (length t - at) len (numberAt 4 t (at + headLen)) (h .2) (h .3) kind)
 
 module _ (t : List ℕ) (at : ℕ) where
@@ -87,10 +98,14 @@ integer-in t at x e e′ = (read-in t at x Integer e e′) .2
 pub list-in : (t : List ℕ) (at n : ℕ) (x : Record) → x ≡ recordAt t at → x ≡ ListOf n → listLen ≤ length t - at
 list-in t at n x e e′ = (read-in t at x (ListOf n) e e′) .3
 
+-- a fault is told within the table, and at its length if it is 22
+abbrev pub Told : ℕ → ℕ → ℕ → Type 0
+Told lim n a = (a ≤ lim) × (n ≡ missingTrees → a ≡ lim) × (a ≡ lim → n ≡ missingTrees)
+
 -- what is found lies past its place and within the table
 abbrev pub Ends : {A : Type 0} → ℕ → ℕ → Result (Found A) → Type 0
 Ends p lim (ok (found x q)) = (p ≤ q) × (q ≤ lim)
-Ends p lim (refused n a) = Unit {0}
+Ends p lim (refused n a) = Told lim n a
 
 abbrev pub Ending : ℕ → (ℕ → Result (Found Tree)) → Type 0
 Ending lim f = (p : ℕ) → p ≤ lim → Ends (p + 1) lim (f p)
@@ -102,20 +117,20 @@ items-end lim f hf (suc n) p hp = first (f p) (hf p hp) (items-end lim f hf n)
   where
     last : (x : Tree) (q : ℕ) → p ≤ q → (y : Result (Found Trees)) → Ends q lim y → Ends p lim (andThen y (λ xs r. ok (found (more x xs) r)))
     last x q h (ok (found xs r)) hy = (omega arith, hy .1)
-    last x q h (refused k a) hy = tt
+    last x q h (refused k a) hy = hy
 
     first : (y : Result (Found Tree)) → Ends (p + 1) lim y → ((q : ℕ) → q ≤ lim → Ends q lim (itemsAt f n q))
         → Ends p lim (andThen y (λ x q. andThen (itemsAt f n q) (λ xs r. ok (found (more x xs) r))))
     first (ok (found x q)) hy ih = last x q (omega arith) (itemsAt f n q) (ih q (hy .1))
-    first (refused k a) hy ih = tt
+    first (refused k a) hy ih = hy
 
 end-map : {A B : Type 0} (g : A → B) (p p′ lim : ℕ) → p ≤ p′ → (y : Result (Found A)) → Ends p′ lim y → Ends p lim (andThen y (λ x q. ok (found (g x) q)))
 end-map g p p′ lim h (ok (found x q)) hy = (omega arith, hy .1)
-end-map g p p′ lim h (refused n a) hy = tt
+end-map g p p′ lim h (refused n a) hy = hy
 
 -- what a judged record says of the table's bytes, of the depth, and of what it names or holds
 abbrev pub StepIn : List ℕ → Bool → ℕ → ℕ → Step → Type 0
-StepIn t w d at (step.Fault n) = 0 < n
+StepIn t w d at (step.Fault n) = FaultIn (length t - at) n
 StepIn t w d at (step.Symbol len) =
     (headLen ≤ len) × (len ≤ length t - at) × (isSymbol (payload t at len) ≡ true) × (len ≡ lenAt t at) × (kindAt t at ≡ symbolKind)
 StepIn t w d at step.Integer = (integerLen ≤ length t - at) × ((w && isLowest t at) ≡ false) × (lenAt t at ≡ integerLen) × (kindAt t at ≡ integerKind)
@@ -126,12 +141,20 @@ StepIn t w d at (step.List n) =
 
 of-in : (t : List ℕ) (w : Bool) (d at : ℕ) (x : Record) → RecordAt t at x → StepIn t w d at (stepOf t w at (ltb 0 d) x)
 of-in t w d at (Bad n) h = h
-of-in t w d at (Symbol len) h = pick (StepIn t w d at) (isSymbol (payload t at len)) (λ e. (h .2, h .3, e, h .0, h .1)) (λ _. lit< tt)
-of-in t w d at Integer h = pick (StepIn t w d at) (w && isLowest t at) (λ _. lit< tt) (λ e. (h .2, e, h .0, h .1))
+of-in t w d at (Symbol len) h =
+    let some : 0 < length t - at = omega (arith, h .2, h .3) in
+    pick (StepIn t w d at) (isSymbol (payload t at len)) (λ e. (h .2, h .3, e, h .0, h .1)) (λ _. fault-of (length t - at) badSymbol some (lit< tt) (λ g. omega arith))
+of-in t w d at Integer h =
+    pick (StepIn t w d at) (w && isLowest t at) (λ _. fault-of (length t - at) lowest (omega (arith, h .2)) (lit< tt) (λ g. omega arith)) (λ e. (h .2, e, h .0, h .1))
 of-in t w d at (Binding len) h =
+    let some : 0 < length t - at = omega (arith, h .2, h .3) in
     pick (StepIn t w d at) (ltb 0 d)
-    (λ l. pick (StepIn t w d at) (isSymbol (payload t at len)) (λ e. (h .2, h .3, ltb-true 0 d l, e, h .0, h .1)) (λ _. lit< tt)) (λ _. lit< tt)
-of-in t w d at (ListOf n) h = pick (StepIn t w d at) (ltb 0 d) (λ l. (h .3, ltb-true 0 d l, h .0, h .1, h .2)) (λ _. lit< tt)
+    (λ l. pick (StepIn t w d at) (isSymbol (payload t at len)) (λ e. (h .2, h .3, ltb-true 0 d l, e, h .0, h .1))
+    (λ _. fault-of (length t - at) badSymbol some (lit< tt) (λ g. omega arith)))
+    (λ _. fault-of (length t - at) tooDeep some (lit< tt) (λ g. omega arith))
+of-in t w d at (ListOf n) h =
+    pick (StepIn t w d at) (ltb 0 d) (λ l. (h .3, ltb-true 0 d l, h .0, h .1, h .2))
+    (λ _. fault-of (length t - at) tooDeep (omega (arith, h .3)) (lit< tt) (λ g. omega arith))
 
 pub judged-in : (t : List ℕ) (w : Bool) (d at : ℕ) → StepIn t w d at (stepAt t w at (ltb 0 d))
 unfolding stepAt
@@ -173,7 +196,7 @@ tree-end t w = by-steps t w (λ d at y. at ≤ length t → Ends (at + 1) (lengt
   where
     by : (d at : ℕ) → (0 < d → Ending (length t) (treeAt t w (d - 1))) → (s : Step) → StepIn t w d at s → at ≤ length t
         → Ends (at + 1) (length t) (ofStep t at (treeAt t w (d - 1)) s)
-    by d at hf (step.Fault n) hs h = tt
+    by d at hf (step.Fault n) hs h = (h, λ e. omega (arith, hs .1 e), λ e. hs .2 (omega arith))
     by d at hf (step.Symbol len) hs h = (omega (arith, hs .0), omega (arith, hs .1))
     by d at hf step.Integer hs h = (omega arith, omega (arith, hs .0))
     by d at hf (step.Binding len) hs h =
