@@ -1,12 +1,13 @@
--- The fits test on numbers, and its walk: the trees still due, what is spent, and the answer that they decide. Assumes that the table's elements are bytes.
-use mathlib.Core.Path.{_≡_, refl, ap, sym, subst, subst⁻¹, _∙_}
-use mathlib.Core.Bool.{Bool, true, false, _&&_}
+-- The fits test on numbers; its walk over a table is the layout's test where a tree stands, and the code's on any bytes. Assumes that the table's elements are bytes.
+use mathlib.Core.Path.{_≡_, refl, ap, sym, subst, _∙_}
+use mathlib.Core.Bool.{Bool, true, false, cond, _&&_}
 use mathlib.Core.List.{List, _++_, append-assoc, append-nil}
-use Prim.Native.Nat.{ℕ, _+_, _-_, _≤_, _<_}
+use Prim.Native.Nat.{ℕ, zero, suc, _+_, _-_, _≤_, _<_}
 use native.Mathlib.Omega.{arith}
 use lib.ListN.{length}
-use lib.Dec.{leb, ltb}
-use borrow.Author.Tests.{le-leb, lt-leb, leb-false, ltb-true, ltb-false}
+use lib.Dec.{leb, ltb, eqb}
+use borrow.Author.Tests.{le-leb, lt-leb, leb-true, leb-false, ltb-true, ltb-false, lt-ltb, le-ltb, eq-eqb, ne-eqb, eqb-true, eqb-false}
+use Rattle.lists.proofs.Choice.{and-left, and-right}
 use Rattle.refusals.specs.Result.{Result, ok, refused}
 use Rattle.wide.specs.Bytes.{Bytes, le, wideBytes}
 use Rattle.wide.specs.Text.{integerText}
@@ -24,9 +25,11 @@ use Rattle.table.proofs.Heads.{Sized, Sizeds, good-sized, reads, value-read}
 use Rattle.table.proofs.Decoded.{Holds, tree-holds}
 use Rattle.printer.specs.Layout.{fitsIn, fits, cost, costs}
 use Rattle.printer.specs.PrivateTrees.{Right, Sound, treeOf}
-use Rattle.printer.specs.PrivateFitting.{entryOf, Entered}
+use Rattle.printer.specs.Fitting.{entryAt, walk, fitsFrom, fitsAt}
+use Rattle.printer.specs.PrivateFitting.{entryOf, Forward, Entered}
 use Rattle.printer.specs.declared.cost.Entry.{Entry}
 use Rattle.printer.specs.declared.cost.Entry.the-variants.{Is, Bad as NoEntry}
+use Rattle.printer.proofs.FitEntries.{entry-entered}
 
 -- a tree's first record, the trees that follow it, and its own part of the cost
 abbrev own : Tree → List ℕ
@@ -50,6 +53,13 @@ ownCost (list xs) = count xs + 1
 abbrev app : Trees → Trees → Trees
 app none ys = ys
 app (more x xs) ys = more x (app xs ys)
+
+-- no more trees follow it than it costs
+few : (x : Tree) → count (kids x) ≤ ownCost x
+few (symbol n) = omega arith
+few (integer z) = omega arith
+few (binding n x) = omega arith
+few (list xs) = omega arith
 
 records-own : (x : Tree) → records x ≡ own x ++ recordsOf (kids x)
 unfolding records
@@ -122,92 +132,188 @@ module _ (w c : ℕ) where
   unfolding fitsIn
   fits-test k h = rw (le-leb c w h) refl
 
-  -- what does not fit, does not with more
-  fits-less : (k m : ℕ) → k ≤ m → fitsIn w c k ≡ false → fitsIn w c m ≡ false
-  unfolding fitsIn
-  fits-less k m l e = by (leb c w) (leb k (w - c)) refl e
-    where
-      by : (a b : Bool) → leb k (w - c) ≡ b → (a && b) ≡ false → (a && leb m (w - c)) ≡ false
-      by false b f g = refl
-      by true true f g = absurd (let z : _≡_ {A = ℕ} 0 1 = cc in omega arith)
-      by true false f g = lt-leb m (w - c) (omega (arith, leb-false k (w - c) f))
+-- ---- the walk where trees stand: those still due, and the answer that they decide with what is left
 
--- ---- the walk: `spent` is what the records before p cost
+record Due (t : List ℕ) (p due rest : ℕ) (answer : Bool) : Type 0 where
+  within : p ≤ length t
+  xs : Trees
+  sized : Sizeds xs
+  stands : Stands t p (recordsOf xs)
+  many : count xs ≡ due
+  test : answer ≡ leb (costs xs) rest
 
-pub record Due (t : List ℕ) (w c p due spent : ℕ) (answer : Bool) : Type 0 where
-  pub within : p ≤ length t
-  pub xs : Trees
-  pub sized : Sizeds xs
-  pub stands : Stands t p (recordsOf xs)
-  pub many : count xs ≡ due
-  pub rest : answer ≡ fitsIn w c (spent + costs xs)
-
-pub due-begin : (t : List ℕ) (d at w c : ℕ) → Bytes t → at ≤ length t → Right (treeAt t true d at) → Due t w c at 1 0 (fits w c (treeOf (treeAt t true d at)))
-unfolding records Sized cost
-due-begin t d at w c hb ha r = by (treeAt t true d at) (tree-holds t hb true d at ha) r
+-- two tests of which each decides the other
+leb-same : (a b c d : ℕ) → (a ≤ b → c ≤ d) → (b < a → d < c) → leb a b ≡ leb c d
+leb-same a b c d f g = by (leb a b) refl
   where
-    by : (y : Result (Found Tree)) → Holds t true d at y → Right y → Due t w c at 1 0 (fits w c (treeOf y))
-    by (refused n a) h r = absurd r
-    by (ok (found x q)) h r = record {
-      within = ha;
-      xs = more x none;
-      sized = (good-sized x d (h .2), tt);
-      stands = subst (Stands t at) (sym (append-nil (records x))) (h .0);
-      many = refl;
-      rest = ap (fitsIn w c) (omega arith);
-    }
+    by : (x : Bool) → leb a b ≡ x → x ≡ leb c d
+    by true e = sym (le-leb c d (f (leb-true a b e)))
+    by false e = sym (lt-leb c d (g (leb-false a b e)))
 
--- where a tree is due, its entry was read, and the trees in it come due in its place
-turn-of : (t : List ℕ) (w c p due spent : ℕ) (answer : Bool) (xs : Trees) → Sizeds xs → Stands t p (recordsOf xs) → count xs ≡ due → answer ≡ fitsIn w c (spent + costs xs) → p ≤ length t
-    → 0 < due → (k size m : ℕ) → Entered t p (recordAt t p) (Is k size m) → Due t w c (p + size) (due - 1 + m) (spent + k) answer
-unfolding Sized records cost
-turn-of t w c p due spent answer none g s e r hp hd k size m ee = absurd (omega arith)
-turn-of t w c p due spent answer (more x xs) g s e r hp hd k size m ee =
-    let ys : Trees = app (kids x) xs in
-    let both : records x ++ recordsOf xs ≡ own x ++ recordsOf ys =
-    ap (λ (r : List ℕ). r ++ recordsOf xs) (records-own x) ∙ append-assoc (own x) (recordsOf (kids x)) (recordsOf xs) ∙ ap (λ (r : List ℕ). own x ++ r) (sym (records-app (kids x) xs)) in
-    let all : Stands t p (own x ++ recordsOf ys) = subst (Stands t p) both s in
-    let a = sums-app (kids x) xs in
-    let is : Is k size m ≡ Is (ownCost x) (length (own x)) (count (kids x)) =
-    entered-of t p _ _ _ (recordAt t p) (Is k size m) (entry-own x t p (g .0) hp (stands-left t p (records x) (recordsOf xs) s)) ee in
-    let e0 : k ≡ ownCost x = cc in
-    let e1 : size ≡ length (own x) = cc in
-    let e2 : m ≡ count (kids x) = cc in
-    record {
-      within = omega (arith, stands-length t p (own x) hp (stands-left t p (own x) (recordsOf ys) all));
-      xs = ys;
-      sized = sized-app (kids x) xs (kids-sized x (g .0)) (g .1);
-      stands = subst⁻¹ (λ (j : ℕ). Stands t (p + j) (recordsOf ys)) e1 (stands-right t p (own x) (recordsOf ys) all);
-      many = omega (arith, a .1);
-      rest = r ∙ ap (fitsIn w c) (omega (arith, cost-own x, a .0));
-    }
-
-pub due-step : (t : List ℕ) (w c p due spent : ℕ) (answer : Bool) (e : Entry) → Due t w c p due spent answer → 0 < due → Entered t p (recordAt t p) e → (k size m : ℕ) → e ≡ Is k size m
-    → Due t w c (p + size) (due - 1 + m) (spent + k) answer
-due-step t w c p due spent answer e h hd ee k size m ek =
-    turn-of t w c p due spent answer (h .xs) (h .sized) (h .stands) (h .many) (h .rest) (h .within) hd k size m (subst (Entered t p (recordAt t p)) ek ee)
-
-pub due-bad : (t : List ℕ) (w c p due spent : ℕ) (answer : Bool) (e : Entry) → Due t w c p due spent answer → 0 < due → Entered t p (recordAt t p) e → e ≡ NoEntry → ⊥
-unfolding Sized records
-due-bad t w c p due spent answer e h hd ee eb = by (h .xs) (h .sized) (h .stands) (h .many)
-  where
-    by : (xs : Trees) → Sizeds xs → Stands t p (recordsOf xs) → count xs ≡ due → ⊥
-    by none g s k = omega arith
-    by (more x xs) g s k =
-        let b : NoEntry ≡ Is (ownCost x) (length (own x)) (count (kids x)) =
-        sym eb ∙ entered-of t p _ _ _ (recordAt t p) e (entry-own x t p (g .0) (h .within) (stands-left t p (records x) (recordsOf xs) s)) ee in
-        let z : _≡_ {A = ℕ} 0 1 = cc in omega arith
-
--- the walk goes on while what is spent fits and a tree is due
-pub due-on : (fit : Bool) (due : ℕ) → (fit && ltb 0 due) ≡ true → 0 < due
-due-on true due e = ltb-true 0 due e
-due-on false due e = absurd (let z : _≡_ {A = ℕ} 0 1 = cc in omega arith)
-
-pub due-end : (t : List ℕ) (w c p due spent : ℕ) (answer fit : Bool) → Due t w c p due spent answer → fit ≡ fitsIn w c spent → (fit && ltb 0 due) ≡ false → fit ≡ answer
+due-none : (rest : ℕ) (answer : Bool) (xs : Trees) → count xs ≡ 0 → answer ≡ leb (costs xs) rest → true ≡ answer
 unfolding cost
-due-end t w c p due spent answer false h e f = sym (h .rest ∙ fits-less w c spent (spent + costs (h .xs)) (omega arith) (sym e))
-due-end t w c p due spent answer true h e f = e ∙ ap (fitsIn w c) (by (h .xs) (h .many)) ∙ sym (h .rest)
-  where
-    by : (xs : Trees) → count xs ≡ due → spent ≡ spent + costs xs
-    by none k = omega arith
-    by (more x xs) k = absurd (omega (arith, ltb-false 0 due f))
+due-none rest answer none k e = sym (e ∙ le-leb 0 rest (omega arith))
+due-none rest answer (more x xs) k e = absurd (omega arith)
+
+module _ (t : List ℕ) (hb : Bytes t) where
+  -- where a tree is due, its entry is read, and the trees in it come due in its place
+  due-turn : (p due rest : ℕ) (answer : Bool) (xs : Trees) → Sizeds xs → Stands t p (recordsOf xs) → count xs ≡ due → answer ≡ leb (costs xs) rest → p ≤ length t → 0 < due
+      → (go : ℕ → ℕ → ℕ → Bool)
+      → ((k size m : ℕ) → m ≤ k → k ≤ rest → Due t (p + size) (due - 1 + m) (rest - k) answer → go size m (rest - k) ≡ answer)
+      → walk (entryAt t p) rest go ≡ answer
+  unfolding Sized records cost
+  due-turn p due rest answer none g s e r hp hd go ih = absurd (omega arith)
+  due-turn p due rest answer (more x xs) g s e r hp hd go ih =
+      ap (λ (y : Entry). walk y rest go) is ∙ by (ltb rest (ownCost x)) refl
+    where
+      ys : Trees
+      ys = app (kids x) xs
+
+      sx : Stands t p (records x)
+      sx = stands-left t p (records x) (recordsOf xs) s
+
+      is : entryAt t p ≡ Is (ownCost x) (length (own x)) (count (kids x))
+      is = entered-of t p _ _ _ (recordAt t p) (entryAt t p) (entry-own x t p (g .0) hp sx) (entry-entered t p hb)
+
+      all : Stands t p (own x ++ recordsOf (app (kids x) xs))
+      all =
+          subst (Stands t p)
+          (ap (λ (r : List ℕ). r ++ recordsOf xs) (records-own x) ∙ append-assoc (own x) (recordsOf (kids x)) (recordsOf xs) ∙ ap (λ (r : List ℕ). own x ++ r) (sym (records-app (kids x) xs)))
+          s
+
+      by : (z : Bool) → ltb rest (ownCost x) ≡ z → cond z false (go (length (own x)) (count (kids x)) (rest - ownCost x)) ≡ answer
+      by true ez = sym (r ∙ lt-leb (cost x + costs xs) rest (omega (arith, ltb-true rest (ownCost x) ez, cost-own x)))
+      by false ez =
+          let l = ltb-false rest (ownCost x) ez in
+          let a = sums-app (kids x) xs in
+          ih (ownCost x) (length (own x)) (count (kids x)) (few x) l (record {
+            within = omega (arith, stands-length t p (own x) hp (stands-left t p (own x) (recordsOf (app (kids x) xs)) all));
+            xs = app (kids x) xs;
+            sized = sized-app (kids x) xs (kids-sized x (g .0)) (g .1);
+            stands = stands-right t p (own x) (recordsOf (app (kids x) xs)) all;
+            many = omega (arith, a .1);
+            test = r ∙ leb-same (cost x + costs xs) rest (costs (app (kids x) xs)) (rest - ownCost x) (λ h. omega (arith, cost-own x, a .0)) (λ h. omega (arith, cost-own x, a .0, l));
+          })
+
+  -- with enough records, the walk decides what the trees due decide
+  fits-due : (n p due rest : ℕ) (answer : Bool) → Due t p due rest answer → due + rest ≤ n → fitsFrom n t p due rest ≡ answer
+  unfolding fitsFrom
+  fits-due zero p due rest answer h l = let z : due ≡ 0 = omega arith in rw z (due-none rest answer (h .xs) (h .many ∙ z) (h .test))
+  fits-due (suc n) p due rest answer h l = by (eqb due 0) refl (fits-due n)
+    where
+      by : (z : Bool) → eqb due 0 ≡ z → ((p due rest : ℕ) (answer : Bool) → Due t p due rest answer → due + rest ≤ n → fitsFrom n t p due rest ≡ answer)
+          → cond z true (walk (entryAt t p) rest (λ size more r. fitsFrom n t (p + size) (due - 1 + more) r)) ≡ answer
+      by true e ih = due-none rest answer (h .xs) (h .many ∙ eqb-true due 0 e) (h .test)
+      by false e ih =
+          let f = eqb-false due 0 e in
+          let some : 0 < due = omega (arith, f) in
+          due-turn p due rest answer (h .xs) (h .sized) (h .stands) (h .many) (h .test) (h .within) some
+          (λ size more r. fitsFrom n t (p + size) (due - 1 + more) r)
+          (λ k size m hm hk d. ih (p + size) (due - 1 + m) (rest - k) answer d (omega (arith, some)))
+
+  -- the test on bytes is the layout's where a tree stands
+  pub fits-stands : (x : Tree) (p w c : ℕ) → Sized x → p ≤ length t → Stands t p (records x) → fitsAt t p w c ≡ fits w c x
+  unfolding fitsAt fitsIn records Sized cost
+  fits-stands x p w c g hp s =
+      ap (λ (z : Bool). leb c w && z)
+      (fits-due (w - c + 1) p 1 (w - c) (leb (cost x) (w - c)) (record {
+        within = hp;
+        xs = more x none;
+        sized = (g, tt);
+        stands = subst (Stands t p) (sym (append-nil (records x))) s;
+        many = refl;
+        test = leb-same (cost x) (w - c) (cost x + 0) (w - c) (λ h. omega arith) (λ h. omega arith);
+      }) (omega arith))
+
+  -- and so where one was found
+  pub fits-right : (d p w c : ℕ) → p ≤ length t → Right (treeAt t true d p) → fitsAt t p w c ≡ fits w c (treeOf (treeAt t true d p))
+  fits-right d p w c hp r = by (treeAt t true d p) (tree-holds t hb true d p hp) r
+    where
+      by : (y : Result (Found Tree)) → Holds t true d p y → Right y → fitsAt t p w c ≡ fits w c (treeOf y)
+      by (refused n a) h r = absurd r
+      by (ok (found x q)) h r = fits-stands x p w c (good-sized x d (h .2)) hp (h .0)
+
+-- ---- the code's walk: what is left to walk decides the answer
+
+fits-none : (k : ℕ) (t : List ℕ) (p due rest : ℕ) → due ≤ 0 → fitsFrom k t p due rest ≡ true
+unfolding fitsFrom
+fits-none zero t p due rest l = eq-eqb due 0 (omega arith)
+fits-none (suc k) t p due rest l =
+    ap (λ (z : Bool). cond z true (walk (entryAt t p) rest (λ size more r. fitsFrom k t (p + size) (due - 1 + more) r))) (eq-eqb due 0 (omega arith))
+
+unroll : (k : ℕ) (t : List ℕ) (p due rest : ℕ) → 0 < due → due + rest ≤ k
+    → fitsFrom k t p due rest ≡ walk (entryAt t p) rest (λ size more r. fitsFrom (k - 1) t (p + size) (due - 1 + more) r)
+unfolding fitsFrom
+unroll zero t p due rest h l = absurd (omega arith)
+unroll (suc k) t p due rest h l = let e : suc k - 1 ≡ k = omega arith in rw (ne-eqb due 0 (λ z. omega arith), e) refl
+
+-- what is left to walk, while what was walked does not reach past the width
+pub record Rest (t : List ℕ) (at w c reach p due : ℕ) : Type 0 where
+  k : ℕ
+  enough : due + (w - reach) ≤ k
+  pub few : due + (w - reach) ≤ w + 1
+  same : fitsFrom k t p due (w - reach) ≡ fitsAt t at w c
+
+pub record Walking (t : List ℕ) (at w c reach p due : ℕ) : Type 0 where
+  bytes : Bytes t
+  pub on : reach ≤ w → Rest t at w c reach p due
+  off : w < reach → false ≡ fitsAt t at w c
+
+pub walk-begin : (t : List ℕ) (at w c : ℕ) → Bytes t → Walking t at w c c at 1
+unfolding fitsAt
+walk-begin t at w c hb = record {
+  bytes = hb;
+  on = λ h. record { k = w - c + 1; enough = omega arith; few = omega arith; same = rw (le-leb c w h) refl };
+  off = λ h. rw (lt-leb c w h) refl;
+}
+
+-- the walk goes on while the width is not passed and a tree is due
+pub walk-test : (w reach due : ℕ) → (leb reach w && ltb 0 due) ≡ true → (reach ≤ w) × (0 < due)
+walk-test w reach due e = (leb-true reach w (and-left (leb reach w) (ltb 0 due) e), ltb-true 0 due (and-right (leb reach w) (ltb 0 due) e))
+
+falls : (due rest own m k : ℕ) → 0 < due → m ≤ own → own ≤ rest → due + rest ≤ k → due - 1 + m + (rest - own) ≤ k - 1
+falls due rest own m k hd hm ho l = omega arith
+
+module _ (t : List ℕ) (at w c reach p due : ℕ) (h : Walking t at w c reach p due) where
+  pub walk-end : (leb reach w && ltb 0 due) ≡ false → leb reach w ≡ fitsAt t at w c
+  walk-end e = by (leb reach w) refl e
+    where
+      by : (x : Bool) → leb reach w ≡ x → (x && ltb 0 due) ≡ false → x ≡ fitsAt t at w c
+      by true f g = let r = h .on (leb-true reach w f) in sym (fits-none (r .k) t p due (w - reach) (ltb-false 0 due g)) ∙ r .same
+      by false f g = h .off (leb-false reach w f)
+
+  module _ (hr : reach ≤ w) (hd : 0 < due) (e : Entry) (ee : e ≡ entryAt t p) where
+    left : Rest t at w c reach p due
+    left = h .on hr
+
+    turned : (y : Entry) → e ≡ y → walk y (w - reach) (λ size more r. fitsFrom (left .k - 1) t (p + size) (due - 1 + more) r) ≡ fitsAt t at w c
+    turned y f =
+        ap (λ (y : Entry). walk y (w - reach) (λ size more r. fitsFrom (left .k - 1) t (p + size) (due - 1 + more) r)) (sym f ∙ ee)
+        ∙ sym (unroll (left .k) t p due (w - reach) hd (left .enough)) ∙ left .same
+
+    pub walk-bad : e ≡ NoEntry → false ≡ fitsAt t at w c
+    walk-bad f = turned NoEntry f
+
+    module _ (cost size more : ℕ) (f : e ≡ Is cost size more) where
+      pub walk-on : Forward t p (Is cost size more)
+      walk-on = subst (Forward t p) (sym ee ∙ f) (entry-entered t p (h .bytes) .0)
+
+      at-test : (z : Bool) → ltb (w - reach) cost ≡ z → cond z false (fitsFrom (left .k - 1) t (p + size) (due - 1 + more) (w - reach - cost)) ≡ fitsAt t at w c
+      at-test z ez = sym (ap (λ (y : Bool). cond y false (fitsFrom (left .k - 1) t (p + size) (due - 1 + more) (w - reach - cost))) ez) ∙ turned (Is cost size more) f
+
+      rest-less : w - reach - cost ≡ w - (reach + cost)
+      rest-less = omega arith
+
+      fewer : (k : ℕ) → cost ≤ w - reach → due + (w - reach) ≤ k → due - 1 + more + (w - (reach + cost)) ≤ k - 1
+      fewer k l g = subst (λ (r : ℕ). due - 1 + more + r ≤ k - 1) rest-less (falls due (w - reach) cost more k hd (walk-on .3) l g)
+
+      still : cost ≤ w - reach → Rest t at w c (reach + cost) (p + size) (due - 1 + more)
+      still l = record {
+        k = left .k - 1;
+        enough = fewer (left .k) l (left .enough);
+        few = let g = fewer (w + 1) l (left .few) in omega (arith, g);
+        same = subst (λ (r : ℕ). fitsFrom (left .k - 1) t (p + size) (due - 1 + more) r ≡ fitsAt t at w c) rest-less (at-test false (le-ltb (w - reach) cost l));
+      }
+
+      pub walk-step : Walking t at w c (reach + cost) (p + size) (due - 1 + more)
+      walk-step = record { bytes = h .bytes; on = λ l. still (omega (arith, l)); off = λ l. at-test true (lt-ltb (w - reach) cost (omega (arith, l))) }

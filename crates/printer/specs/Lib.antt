@@ -1,6 +1,7 @@
 pub mod Layout
 pub mod Printing
 pub mod PrivateTrees
+pub mod Fitting
 pub mod PrivateFitting
 pub mod PrivateMeasuring
 pub mod PrivateWriting

@@ -21,9 +21,9 @@ entryOf t at (Binding len) = Is (len - headLen + 3) len 1
 entryOf t at (ListOf n) = Is (n + 1) listLen n
 entryOf t at (Bad n) = NoEntry
 
--- a walk from entry to entry goes forward, from a place within the table, by numbers of four bytes
+-- a walk from entry to entry goes forward, from a place within the table by a number of four bytes; no more trees come due than the entry costs, which is 2^32 at most
 abbrev pub Forward : List ℕ → ℕ → Entry → Type 0
-Forward t at (Is k n m) = (headLen ≤ n) × (at < length t) × (n < 4294967296) × (m < 4294967296) × (k ≤ 4294967296)
+Forward t at (Is k n m) = (headLen ≤ n) × (at < length t) × (n < 4294967296) × (m ≤ k) × (k ≤ 4294967296)
 Forward t at NoEntry = Unit {0}
 
 -- the entry of a record that is not bad; of a bad one only that the walk ends

@@ -1,15 +1,8 @@
-// The fits test: a cost, a column and a width, and the walk that adds a tree's cost up.
+// Columns: the one that a line break sets, and the fits test with the walk that adds a tree's cost up. All of it is for any bytes, since a window's table may change.
 use records::HEAD;
 ghost use mathlib.Core.Path.{_≡_};
-ghost use mathlib.Core.Bool.{true};
-ghost use Prim.Native.Nat.{ℕ, _+_, _≤_};
-ghost use lib.ListN.{length};
-ghost use Rattle.refusals.specs.Numbers.{tableLimit};
-ghost use Rattle.table.specs.Records.{recordAt};
-ghost use Rattle.table.specs.Decoding.{treeAt};
-ghost use Rattle.printer.specs.Layout.{fitsIn, fits as fitsOf};
-ghost use Rattle.printer.specs.PrivateTrees.{Right, treeOf};
-ghost use Rattle.printer.specs.PrivateFitting.{Entered};
+ghost use Rattle.printer.specs.Layout.{breakColumn, fitsIn};
+ghost use Rattle.printer.specs.Fitting.{entryAt, fitsAt};
 
 pub enum Entry {
     // A record's cost, its length, and the trees that come due with it.
@@ -17,10 +10,16 @@ pub enum Entry {
     Bad,
 }
 
-// What the record at `at` of a checked table adds to the cost. Of a bad one it says anything, but goes on past it or says that it is bad.
+// The column that a line break sets.
+pub fn break_column(indent: usize) -> usize
+    ensures { λ r. ⌜ r ≡ breakColumn indent ⌝ }
+{
+    0
+}
+
+// What the record at `at` adds to the cost, by its length and kind alone: it was judged before, or it may say anything.
 fn entry_at(t: &[u8], at: usize) -> Entry
-    requires { ⌜ (at ≤ tableLimit + 4294967295) ⌝ }
-    ensures { λ r. ⌜ Entered (now (t .entry)) at (recordAt (now (t .entry)) at) r ⌝ }
+    ensures { λ r. ⌜ r ≡ entryAt (now (t .entry)) at ⌝ }
 {
     let len = records::len_at(t, at);
     if len < HEAD {
@@ -50,27 +49,25 @@ pub fn fits_in(width: usize, column: usize, cost: usize) -> bool
     cost <= width - column
 }
 
-// Whether the tree at `at` fits: its records are walked with a count of the trees still due, up to the first that costs too much.
-pub fn fits(t: &[u8], at: usize, width: usize, column: usize) -> bool
-    requires { ⌜ (at ≤ length (now t)) × (length (now t) ≤ tableLimit) ⌝ }
-    ensures { λ r. ⌜ ((d : ℕ) → Right (treeAt (now (t .entry)) true d at) → r ≡ fitsOf width column (treeOf (treeAt (now (t .entry)) true d at))) ⌝ }
+// Whether the tree at `at` fits: its records are walked with a count of the trees still due, from its column up to the first that reaches past the width.
+pub fn fits(t: &[u8], at: usize, width: u32, column: usize) -> bool
+    ensures { λ r. ⌜ r ≡ fitsAt (now (t .entry)) at width column ⌝ }
 {
-    let mut cost = 0;
+    let line = width as usize;
+    let mut reach = column;
     let mut p = at;
     let mut due = 1;
-    let mut fit = fits_in(width, column, 0);
-    while fit & (0 < due) {
+    while (reach <= line) & (0 < due) {
         match entry_at(t, p) {
             Entry::Bad => {
                 return false;
             }
-            Entry::Is(own, size, more) => {
-                cost = cost + own;
+            Entry::Is(cost, size, more) => {
+                reach = reach + cost;
                 p = p + size;
                 due = due - 1 + more;
-                fit = fits_in(width, column, cost);
             }
         }
     }
-    fit
+    reach <= line
 }

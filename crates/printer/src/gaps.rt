@@ -1,18 +1,12 @@
 // What stands before an item of a list that is wrapped, and before its closing parenthesis; and where the item then is.
+use crate::cost;
 use crate::room;
 ghost use mathlib.Core.Path.{_≡_};
 ghost use Prim.Native.Nat.{_+_, _≤_};
 ghost use Rattle.refusals.specs.Numbers.{depthLimit};
-ghost use Rattle.printer.specs.Layout.{Wrap, bytes, column as columnOf, breakColumn, gap, inner};
+ghost use Rattle.printer.specs.Layout.{Wrap, bytes, column as columnOf, gap, inner};
 ghost use Rattle.lists.specs.Rooms.{Puts};
 ghost use Rattle.printer.specs.PrivateWriting.{closing};
-
-// The column that a line break sets.
-fn break_column(indent: usize) -> usize
-    ensures { λ r. ⌜ r ≡ breakColumn indent ⌝ }
-{
-    0
-}
 
 // The indent of an item: only the first stays on its line.
 pub fn item_indent(first: bool, indent: usize) -> usize
@@ -33,7 +27,7 @@ pub fn item_column(first: bool, indent: usize, column: usize) -> usize
     if first {
         return column;
     }
-    break_column(indent + 1)
+    cost::break_column(indent + 1)
 }
 
 // What stands before an item: each but the first is on a line of its own.

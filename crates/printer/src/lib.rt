@@ -1,6 +1,6 @@
 // The layout of a table at a width, a port of the crate's `Printer`: checked and measured in one walk, then laid into the room lent.
 mod atoms;
-mod cost;
+pub mod cost;
 mod flat;
 mod gaps;
 mod measure;
@@ -34,7 +34,7 @@ fn print_wrapped(
     t: &[u8],
     at: usize,
     depth: usize,
-    width: usize,
+    width: u32,
     indent: usize,
     column: usize,
     out: &mut [u8],
@@ -111,7 +111,7 @@ fn print_wrapped(
 }
 
 // A tree and its LF, and the LF between it and one before it.
-fn print_node(t: &[u8], at: usize, width: usize, out: &mut [u8]) -> Run
+fn print_node(t: &[u8], at: usize, width: u32, out: &mut [u8]) -> Run
     requires { ⌜ (at ≤ length (now t)) × (length (now t) ≤ tableLimit) × Right (treeAt (now t) true depthLimit at) ⌝ }
     ensures { λ r. ⌜ Written (framed (ltb 0 at) width) (treeAt (now (t .entry)) true depthLimit at) (r .next) (r .len) (now (out .entry)) (now (out .exit)) ⌝ }
 {
@@ -128,7 +128,7 @@ fn print_node(t: &[u8], at: usize, width: usize, out: &mut [u8]) -> Run
 }
 
 // All trees of a checked table, each in the rest of the room from its first free byte; the bytes that they take.
-fn print_trees(t: &[u8], width: usize, out: &mut [u8]) -> usize
+fn print_trees(t: &[u8], width: u32, out: &mut [u8]) -> usize
     requires { ⌜ Right (tableOf true (now t)) ⌝ }
     ensures { λ r. ⌜ Puts (page (treesOf (tableOf true (now (t .entry)))) width) r (now (out .entry)) (now (out .exit)) ⌝ }
 {
@@ -148,8 +148,7 @@ pub fn print(table: &[u8], width: u32, out: &mut [u8]) -> Printed
     ensures { λ r. ⌜ (printOf r ≡ printing (now (table .entry)) width (length (now (out .entry))))
         × (now (out .exit) ≡ printedInto (now (table .entry)) width (now (out .entry))) ⌝ }
 {
-    let columns = width as usize;
-    match measure::measure(table, columns) {
+    match measure::measure(table, width as usize) {
         Measured::Refused(r) => Printed::Refused(r),
         Measured::Bytes(n) => {
             if out.len() < n {
@@ -158,7 +157,7 @@ pub fn print(table: &[u8], width: u32, out: &mut [u8]) -> Printed
                     place: n,
                 });
             }
-            print_trees(table, columns, out);
+            print_trees(table, width, out);
             Printed::Text(n)
         }
     }

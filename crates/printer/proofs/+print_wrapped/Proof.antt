@@ -12,6 +12,7 @@ use Rattle.lists.proofs.Choice.{eqb-turn}
 use Rattle.printer.specs.Layout.{Wrap, bytes, gap}
 use Rattle.printer.specs.PrivateWriting.{laid}
 use Rattle.printer.proofs.CheckedRecords.{bad-found, symbol-found, integer-found, binding-found, list-found, list-small}
+use Rattle.printer.proofs.FitWalk.{fits-right}
 use Rattle.printer.proofs.ListTexts.{broken, laid-symbol, laid-integer, laid-binding}
 use Rattle.printer.proofs.LayoutBounds.{inner-le}
 use Rattle.printer.proofs.ListWriting.{atom-written, binding-size, binding-written, Filling, filling-begin, filling-item, filling-step, end-size, filling-end}
@@ -142,7 +143,7 @@ enum-known-node-3 : (t : ℕ) → print-wrapped-lts.Need-enum-known-node-3 (call
 enum-known-node-3 t c = search needs
 
 fits-requires : (t : ℕ) → print-wrapped-lts.Need-fits-requires (calls t) (print-wrapped-at t) print-wrapped.Post Inv-loop μ-loop
-fits-requires t c κs = (c .before .before .before .before .before .before .pre .1 .0, c .before .before .before .before .before .before .pre .1 .1)
+fits-requires t c κs = search needs
 
 print-flat-requires : (t : ℕ) → print-wrapped-lts.Need-print-flat-requires (calls t) (print-wrapped-at t) print-wrapped.Post Inv-loop μ-loop
 print-flat-requires t c κs = let r = c .before .before .before .before .before .before .before .before .before .pre .1 in (r .0, r .1, omega arith, r .3)
@@ -155,7 +156,7 @@ returns t c =
     let s = c .before .before .before .before .before .before .before .before .before .before .before .before in
     let r = s .pre .1 in
     let h = list-found _ _ _ _ (r .3) (c .before .before .before .before .before .before .before .before .before .record-at .ensures) _ (c .before .before .before .before .before .before .before .node3 .given .1) in
-    fitting-written _ _ _ (s .args .width) (s .args .indent) (s .args .column) h (sym (c .before .before .before .before .before .fits2 .ensures (s .args .depth) (r .3)) ∙ c .before .before .before .before .if1 .taken) _ _ (s .args .out .now) _ (c .before .before .print-flat .ensures)
+    fitting-written _ _ _ (s .args .width) (s .args .indent) (s .args .column) h (sym (c .before .before .before .before .before .fits2 .ensures ∙ fits-right (s .args .t .now) (λ i. (c .before .before .before .before .before .before .before .before .before .before .before .shared-slice-known .given i) .fits) (s .args .depth) (s .args .at) (s .args .width) (s .args .column) (r .0) (r .3)) ∙ c .before .before .before .before .if1 .taken) _ _ (s .args .out .now) _ (c .before .before .print-flat .ensures)
 
 put-byte-requires : (t : ℕ) → print-wrapped-lts.Need-put-byte-requires (calls t) (print-wrapped-at t) print-wrapped.Post Inv-loop μ-loop
 put-byte-requires t c κs = search needs
@@ -168,7 +169,7 @@ loop-holds t c =
     let s = c .before .before .before .before .before .before .before .before .before .before .before .before in
     let r = s .pre .1 in
     let h = list-found _ _ _ _ (r .3) (c .before .before .before .before .before .before .before .before .before .record-at .ensures) _ (c .before .before .before .before .before .before .before .node3 .given .1) in
-    let f = wrapped-text _ _ _ (s .args .width) (s .args .indent) (s .args .column) h (sym (c .before .before .before .before .before .fits2 .ensures (s .args .depth) (r .3)) ∙ c .before .before .before .before .if1 .left) in
+    let f = wrapped-text _ _ _ (s .args .width) (s .args .indent) (s .args .column) h (sym (c .before .before .before .before .before .fits2 .ensures ∙ fits-right (s .args .t .now) (λ i. (c .before .before .before .before .before .before .before .before .before .before .before .shared-slice-known .given i) .fits) (s .args .depth) (s .args .at) (s .args .width) (s .args .column) (r .0) (r .3)) ∙ c .before .before .before .before .if1 .left) in
     let b = list-in _ _ _ _ (c .before .before .before .before .before .before .before .before .before .record-at .ensures) (c .before .before .before .before .before .before .before .node3 .given .1) in
     filling-begin (s .args .t .now) (s .args .at) (s .args .depth) _ (broken (s .args .width) (s .args .indent) (s .args .column + 1)) (s .args .column)
     (laid (s .args .width) (s .args .indent) (s .args .column)) f _ _ h (r .4) (omega arith) (c .before .before .put-byte .ensures .0)
@@ -316,7 +317,7 @@ returns-6 t c =
     let s = c .before .before .before .before .before .before .before .before .before .before .before .before .before .before .before .before .before .before .before in
     let r = s .pre .1 in
     let h = list-found _ _ _ _ (r .3) (c .before .before .before .before .before .before .before .before .before .before .before .before .before .before .before .before .record-at .ensures) _ (c .before .before .before .before .before .before .before .before .before .before .before .before .before .before .node3 .given .1) in
-    let f = wrapped-text _ _ _ (s .args .width) (s .args .indent) (s .args .column) h (sym (c .before .before .before .before .before .before .before .before .before .before .before .before .fits2 .ensures (s .args .depth) (r .3)) ∙ c .before .before .before .before .before .before .before .before .before .before .before .if1 .left) in
+    let f = wrapped-text _ _ _ (s .args .width) (s .args .indent) (s .args .column) h (sym (c .before .before .before .before .before .before .before .before .before .before .before .before .fits2 .ensures ∙ fits-right (s .args .t .now) (λ i. (c .before .before .before .before .before .before .before .before .before .before .before .before .before .before .before .before .before .before .shared-slice-known .given i) .fits) (s .args .depth) (s .args .at) (s .args .width) (s .args .column) (r .0) (r .3)) ∙ c .before .before .before .before .before .before .before .before .before .before .before .if1 .left) in
     filling-end (c .before .before .before .before .before .before .loop .inv) (c .before .before .before .before .before .loop-test .left) (laid (s .args .width) (s .args .indent) (s .args .column)) (s .args .out .now) h f _ (c .before .before .before .before .before .before .before .before .before .put-byte .ensures) _ _ _ (c .before .before .before .before .least4 .ensures .1)
     (c .before .before .put-close .ensures)
 

@@ -1,8 +1,8 @@
--- `printer::gaps::break_column`: the definition's number.
+-- `printer::cost::break_column`: the definition's number.
 use mathlib.Core.Path.{refl}
 use Rattle.printer.specs.Layout.{breakColumn}
-use Rattle.printer.proofs.gaps.break_column.Statement.{statement}
-use Rattle.printer.proofs.gaps.break_column.Tie as tie
+use Rattle.printer.proofs.cost.break_column.Statement.{statement}
+use Rattle.printer.proofs.cost.break_column.Tie as tie
 
 returns : tie.Need-returns
 unfolding breakColumn
