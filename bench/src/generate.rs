@@ -49,6 +49,19 @@ pub fn text(bytes: usize) -> String {
     }
 }
 
+/// So many lists, one in the other, and in the innermost as many symbols as `bytes` bytes hold.
+pub fn nested(lists: usize, bytes: usize) -> String {
+    let mut text = "(".repeat(lists);
+    for number in 0.. {
+        let item = if number == 0 { "symbol0".to_string() } else { format!(" symbol{number}") };
+        if text.len() + item.len() + lists > bytes {
+            break;
+        }
+        text.push_str(&item);
+    }
+    text + &")".repeat(lists)
+}
+
 fn declaration(text: &mut String, rng: &mut Rng) {
     text.push_str(rng.pick(&["(decl ", "(decl pure partial ", "(extern constructor "]));
     text.push_str(rng.pick(WORDS));

@@ -9,8 +9,8 @@ const LIMIT: usize = 1_048_576;
 const PART: usize = 65_536;
 const SMALL: usize = 24_576;
 
-/// Writes the input, its part, and the part as often as it goes into the limit, so that growth compares like with like.
-/// The input is a file's, or generated where there is no file's name.
+/// Writes the input, its part, and the part as often as it goes into the limit, so that growth compares like with like; and a
+/// list and nested lists, each of both lengths. The input is a file's, or generated where there is no file's name.
 pub fn write(from: &str, folder: &str) -> Result<(), String> {
     let text = match from {
         "" => generate::text(LIMIT),
@@ -19,7 +19,19 @@ pub fn write(from: &str, folder: &str) -> Result<(), String> {
     let part = front(&text, PART)?;
     let grown = part.repeat(LIMIT / part.len().max(1));
     let (whole, small) = (front(&text, LIMIT)?, front(&text, SMALL)?);
-    for (name, text) in [("whole", whole), ("part", part), ("grown", &grown), ("small", small)] {
+    let [list, list_part] = [LIMIT, PART].map(|bytes| generate::nested(1, bytes));
+    let [nest, nest_part] = [LIMIT, PART].map(|bytes| generate::nested(60, bytes));
+    let texts = [
+        ("whole", whole),
+        ("part", part),
+        ("grown", &grown),
+        ("small", small),
+        ("list", &list),
+        ("list_part", &list_part),
+        ("nest", &nest),
+        ("nest_part", &nest_part),
+    ];
+    for (name, text) in texts {
         std::fs::write(format!("{folder}/{name}"), text).map_err(|error| format!("{folder}: {error}"))?;
     }
     Ok(())

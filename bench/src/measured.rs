@@ -45,11 +45,14 @@ impl Job {
                 if text != same {
                     return Err(format!("the two sides print other bytes at width {width}"));
                 }
+                if !same_by_windows(&print.table, width, &text) {
+                    return Err(format!("the windows joined are other bytes at width {width}"));
+                }
                 room = room.max(text.len());
                 job.prints.push(print);
             }
         }
-        job.room = vec![0; room];
+        job.room = vec![0; room.max(512)];
         job.page = vec![0; room];
         Ok(job)
     }
@@ -84,6 +87,16 @@ impl Print {
         std::panic::set_hook(quiet);
         let table = tulbazhik::read(source.as_bytes()).map_err(|error| error.to_string())?;
         Ok(Print { width, trees, table, left_out })
+    }
+}
+
+fn same_by_windows(table: &[u8], width: u32, text: &[u8]) -> bool {
+    let (mut printing, mut window, mut rest) = (tulbazhik::Printing::new(table, width), [0; 512], text);
+    loop {
+        match printing.fill(&mut window) {
+            Ok(Some(n)) if rest.starts_with(&window[..n]) => rest = &rest[n..],
+            answer => return answer == Ok(None) && rest.is_empty(),
+        }
     }
 }
 
@@ -170,6 +183,22 @@ fn print(job: &mut Job, nth: usize) -> usize {
     tulbazhik::print_into(&print.table, print.width, &mut job.room).expect("the room is enough")
 }
 
+/// The same text through windows of so many bytes, as a host in C gets it: each window is written over the one before.
+fn windows(job: &mut Job, size: usize) -> usize {
+    let print = job.prints.iter().find(|print| print.width == 100).expect("it was asked for");
+    let (window, mut state, mut words, mut sum) = (&mut job.room[..size], [0; 72], [0; 8], 0);
+    loop {
+        let (table, room) = (&print.table, window.as_mut_ptr());
+        // SAFETY: the pointers and lengths are slices', and the state and the words are this function's own.
+        unsafe { ffi::tulbazhik_fill(table.as_ptr(), table.len(), 100, &mut state, room, size, &mut words) };
+        match words {
+            [kind::DONE, _, length, ..] => sum += length as usize,
+            [kind::END, ..] => return sum,
+            _ => panic!("the table is good"),
+        }
+    }
+}
+
 fn print_crate(job: &mut Job, nth: usize) -> usize {
     let print = job.prints.iter().find(|print| print.width == WIDTHS[nth]).expect("it was asked for");
     job.page.clear();
@@ -202,6 +231,9 @@ measured! {
     bench_print_40_ours = |job| print(job, 1);
     bench_print_100_ours = |job| print(job, 2);
     bench_print_4294967295_ours = |job| print(job, 3);
+    bench_print_100_windows_1_ours = |job| windows(job, 1);
+    bench_print_100_windows_64_ours = |job| windows(job, 64);
+    bench_print_100_windows_512_ours = |job| windows(job, 512);
     bench_print_0_crate = |job| print_crate(job, 0);
     bench_print_40_crate = |job| print_crate(job, 1);
     bench_print_100_crate = |job| print_crate(job, 2);

@@ -35,6 +35,44 @@ const ROWS: &[Row] = &[
     ),
 ];
 
+/// A print through windows by the C door: its title, its name, and the counts of the input and of the two lengths for growth.
+struct Windows {
+    title: &'static str,
+    ours: &'static str,
+    counts: [&'static str; 3],
+}
+
+const fn windows(title: &'static str, ours: &'static str, counts: [&'static str; 3]) -> Windows {
+    Windows { title, ours, counts }
+}
+
+const INPUT: [&str; 3] = ["whole", "part", "grown"];
+const WINDOWS: &[Windows] = &[
+    windows("windows of 1", "bench_print_100_windows_1_ours", INPUT),
+    windows("windows of 64", "bench_print_100_windows_64_ours", INPUT),
+    windows("windows of 512", "bench_print_100_windows_512_ours", INPUT),
+    windows("one list, windows of 512", "bench_print_100_windows_512_ours", ["list", "list_part", "list"]),
+    windows("60 lists, windows of 512", "bench_print_100_windows_512_ours", ["nest", "nest_part", "nest"]),
+];
+
+/// Each beside the ordinary print of the same text.
+fn by_windows(folder: &str) -> Result<(), String> {
+    println!(
+        "\nprinting through windows in C, width 100, beside the ordinary print, instructions per output byte"
+    );
+    println!("one list and 60 nested lists: growth from 64 KiB to 1 MiB of source\n");
+    println!("{:<27} {:>7} {:>7} {:>6} {:>7} {:>9}", "", "windows", "print", "ratio", "growth", "bytes");
+    for Windows { title, ours, counts } in WINDOWS {
+        let [of, part, grown] = counts.map(|name| lines(&format!("{folder}/{name}.counts")));
+        let (of, part, grown) = (of?, part?, grown?);
+        let (count, print) = (per_byte(&of, ours)?, per_byte(&of, "bench_print_100_ours")?);
+        let growth = (per_byte(&grown, ours)? / per_byte(&part, ours)? - 1.0) * 100.0;
+        let ratio = count / print;
+        println!("{title:<27} {count:>7.1} {print:>7.1} {ratio:>6.2} {growth:>6.1}% {:>9}", of[*ours][0]);
+    }
+    Ok(())
+}
+
 pub fn table(folder: &str) -> Result<(), String> {
     let whole = lines(&format!("{folder}/whole.counts"))?;
     let part = lines(&format!("{folder}/part.counts"))?;
@@ -86,7 +124,7 @@ pub fn table(folder: &str) -> Result<(), String> {
             left_out(width)
         );
     }
-    Ok(())
+    by_windows(folder)
 }
 
 /// Instructions for each of the bytes that the function named.

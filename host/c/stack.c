@@ -14,8 +14,9 @@ struct job {
 };
 
 static uint8_t table[1 << 20], text[1 << 20];
+static tulbazhik_print_state printing;
 
-/* Lexes, feeds, reads and prints the source; `top` is where the calls' part of the stack begins. */
+/* Lexes, feeds, reads and prints the source, whole and through windows; `top` is where the calls' part of the stack begins. */
 static void *calls(void *of) {
     struct job *job = of;
     tulbazhik_answer answer = {.kind = TULBAZHIK_END};
@@ -27,9 +28,13 @@ static void *calls(void *of) {
     tulbazhik_feed(&state, job->source, job->length, &answer);
     tulbazhik_close(&state, &answer);
     tulbazhik_read(job->source, job->length, table, sizeof table, &answer);
+    size_t length = answer.length;
     if (answer.kind == TULBAZHIK_DONE)
-        tulbazhik_print(table, answer.length, job->width, text, sizeof text, &answer);
-    return answer.kind == TULBAZHIK_DONE ? job : NULL;
+        tulbazhik_print(table, length, job->width, text, sizeof text, &answer);
+    memset(&printing, 0, sizeof printing);
+    while (answer.kind == TULBAZHIK_DONE)
+        tulbazhik_fill(table, length, job->width, &printing, text, 512, &answer);
+    return answer.kind == TULBAZHIK_END ? job : NULL;
 }
 
 /* Bytes of stack, or 0 if the source was not read and printed. */

@@ -1,6 +1,6 @@
 /* Tulbazhik's proved functions for C (C11 or C++11): lexing, feeding, reading and printing of ISLE rule files.
-   Link libtulbazhik_lex.a (next_token), libtulbazhik_feed.a (fresh, feed, close) and libtulbazhik_trees.a (read, print),
-   as many of them as are used; `rt staticlib tulbazhik_lex` and so on writes each for x86-64.
+   Link libtulbazhik_lex.a (next_token), libtulbazhik_feed.a (fresh, feed, close), libtulbazhik_trees.a (read, print) and
+   libtulbazhik_windows.a (fill), as many of them as are used; `rt staticlib tulbazhik_lex` and so on writes each for x86-64.
 
    Each function is proved to meet its contract on every input, to stay within what it is lent, and to return. No pointer is
    checked, so these are the caller's duties:
@@ -17,7 +17,7 @@
 
 /* MAJOR grows when something changes that a caller relies on, MINOR when something is added. */
 #define TULBAZHIK_VERSION_MAJOR 2
-#define TULBAZHIK_VERSION_MINOR 0
+#define TULBAZHIK_VERSION_MINOR 1
 
 /* Bytes of a source; bytes of a table, enough for the table of any source; lists and bindings open at once. */
 #define TULBAZHIK_SOURCE_LIMIT 1048576
@@ -25,7 +25,7 @@
 #define TULBAZHIK_DEPTH_LIMIT 64
 
 /* Bytes of stack that no call exceeds, at 64 levels of nesting. It is measured, not proved: host/check paints a stack,
-   makes the calls, looks how far down it was touched, and says how much that was: 18,904 bytes when this was written. */
+   makes the calls, looks how far down it was touched, and says how much that was: 18,920 bytes when this was written. */
 #define TULBAZHIK_STACK 65536
 
 #if defined(__GNUC__)
@@ -56,7 +56,7 @@ typedef struct tulbazhik_answer {
 
 /* The kinds of an answer, and the fields that each has. */
 enum {
-    TULBAZHIK_END = 0,     /* the source's end */
+    TULBAZHIK_END = 0,     /* the source's end; from tulbazhik_fill the text's */
     TULBAZHIK_LPAREN = 1,  /* start, length; from a feed also used, as with every token, refusal and MORE */
     TULBAZHIK_RPAREN = 2,  /* start, length */
     TULBAZHIK_AT = 3,      /* start, length */
@@ -64,7 +64,7 @@ enum {
     TULBAZHIK_INT = 5,     /* start, length (of the whole spelling), high, low */
     TULBAZHIK_REFUSED = 6, /* place, number */
     TULBAZHIK_MORE = 7,    /* the whole piece was consumed and no token is ready */
-    TULBAZHIK_DONE = 8     /* length: a table or a text of so many bytes was written */
+    TULBAZHIK_DONE = 8     /* length: a table, a text or the next part of one was written, so many bytes */
 };
 
 /* The numbers of refusals, and the place that each names. No refusal changes a byte of a room. */
@@ -117,6 +117,11 @@ typedef struct tulbazhik_state {
     uint64_t word[8];
 } tulbazhik_state;
 
+/* What a print through windows keeps between two calls: plain data, which may be copied and stored. Zeros are the fresh state. */
+typedef struct tulbazhik_print_state {
+    uint64_t word[72];
+} tulbazhik_print_state;
+
 /* The next token of a source from the place `at` on, END, or REFUSED. */
 void tulbazhik_next_token(const uint8_t *source, size_t length, size_t at, tulbazhik_answer *answer) TULBAZHIK_NONNULL;
 
@@ -137,6 +142,17 @@ void tulbazhik_read(const uint8_t *source, size_t length, uint8_t *table, size_t
 /* A table laid out at a width as a text in `text`: DONE, or REFUSED. Bytes of the room after the text stay as they were. */
 void tulbazhik_print(const uint8_t *table, size_t length, uint32_t width, uint8_t *text, size_t room,
                      tulbazhik_answer *answer) TULBAZHIK_NONNULL;
+
+/* The text that tulbazhik_print would write, through a window of any length: DONE with as many of the next bytes as the window
+   holds or as are left, whichever is fewer; END at the first call with none left and at each later one; or REFUSED. While bytes
+   are left, a window of length 0 gets DONE with 0 bytes and moves nothing. The windows joined, whatever their lengths, are the
+   text. Bytes of the window after those written stay as they were.
+   The first call, with the fresh state, refuses what tulbazhik_print does but for want of room (18), and no later one refuses;
+   a refused call changes neither the state nor the window. The table and the width stay the same from the first call to the
+   last. If they do not, or if no earlier call gave the state, then what is answered and written is left open; but the call
+   ends, writes in the window alone, and says no more than the window holds. */
+void tulbazhik_fill(const uint8_t *table, size_t length, uint32_t width, tulbazhik_print_state *state, uint8_t *window,
+                    size_t room, tulbazhik_answer *answer) TULBAZHIK_NONNULL;
 
 #ifdef __cplusplus
 }

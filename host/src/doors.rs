@@ -10,6 +10,8 @@ use crate::ffi::{self, Words};
 use crate::frame::{Frame, OUTPUT_ROOM, TABLE_ROOM};
 use crate::guarded::{Bytes, Lent};
 use crate::token::{Answer, Kind, Refusal, Token};
+use crate::windowed;
+use crate::windows::Calls;
 
 unsafe extern "C" {
     fn example_format(source: *const u8, length: usize, text: *mut *mut c_char, size: *mut usize) -> c_int;
@@ -43,7 +45,17 @@ pub fn answers(frame: &Frame) -> Vec<Way> {
         }
         b'P' => {
             let room = b.min(OUTPUT_ROOM);
-            vec![("C", print_in_c(source, frame.a, room)), ("wrapper", print(source, frame.a, room))]
+            let mut ways =
+                vec![("C", print_in_c(source, frame.a, room)), ("wrapper", print(source, frame.a, room))];
+            // a window has no want of room; where the print has, it is told here
+            for (way, text) in windowed::texts(source, frame.a) {
+                let text = text.and_then(|text| match text.len() {
+                    len if len > room => Err(Refusal { number: 18, place: len }),
+                    _ => Ok(text),
+                });
+                ways.push((way, shown("print", text.as_deref().map_err(|refusal| *refusal), Some(true))));
+            }
+            ways
         }
         b'W' => {
             let mut ways = vec![("wrapper", rewritten(source, frame.a))];
@@ -52,6 +64,8 @@ pub fn answers(frame: &Frame) -> Vec<Way> {
             }
             ways
         }
+        b'V' => windowed::calls(&Calls::of(source), frame.a),
+        b'v' => windowed::insides(&Calls::of(source), frame.a, frame.b),
         op => panic!("no op {op}"),
     };
     ways.iter_mut().for_each(|(_, lines)| lines.extend(b".\n"));
@@ -107,7 +121,7 @@ fn of_token(token: tulbazhik::Token) -> Token {
     Token { kind, start: token.start, len: token.len }
 }
 
-fn of_error(error: tulbazhik::Error) -> Refusal {
+pub fn of_error(error: tulbazhik::Error) -> Refusal {
     Refusal { number: error.number as u32, place: error.place }
 }
 

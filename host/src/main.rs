@@ -47,6 +47,8 @@ mod rng;
 mod token;
 #[path = "../../oracle/src/tree.rs"]
 mod tree;
+#[path = "../../oracle/src/windows.rs"]
+mod windows;
 #[path = "../../oracle/src/worked.rs"]
 mod worked;
 
@@ -56,6 +58,7 @@ mod doors;
 mod ffi;
 mod guarded;
 mod stack;
+mod windowed;
 
 use std::process::ExitCode;
 
@@ -72,6 +75,10 @@ fn main() -> ExitCode {
             println!("host: a call takes more stack than the header says");
             failed += 1;
         }
+    }
+    for same in windowed::long() {
+        passed += u64::from(same);
+        failed += u64::from(!same);
     }
     // the doors have no check of a table by itself, op K
     for &op in frame::OPS.iter().filter(|op| **op != b'K') {
@@ -96,6 +103,13 @@ fn main() -> ExitCode {
                 }
             }
         }
+    }
+    // the tables of two cases, for a print that is given the one and then the other; a call that goes wrong here ends the process
+    let mut fence = guarded::Fenced::new();
+    for number in 0..each {
+        let [one, other] = [number, number + 1].map(|number| cases.frame(b'P', number).bytes);
+        windowed::astray([&one, &other], &mut fence, &mut rng::Rng::of(&[b'w' as u64, number]));
+        passed += 1;
     }
     println!("{passed} passed, {failed} failed");
     if failed == 0 { ExitCode::SUCCESS } else { ExitCode::FAILURE }

@@ -6,6 +6,7 @@ use crate::drive::{self, Feeder};
 use crate::frame::{Frame, OUTPUT_ROOM, TABLE_ROOM};
 use crate::token::{Answer, LIMIT, Lexed, Refusal, refusal};
 use crate::tree::Tree;
+use crate::windows::{self, Calls};
 
 /// One way to come by document 01's answers. Lengths and rooms are judged here, the same for every side.
 pub trait Side {
@@ -29,17 +30,19 @@ pub fn answer(side: &dyn Side, frame: &Frame, out: &mut Vec<u8>) {
         b'F' | b'f' => drive::tokens(side.feeder(source), source, a, b, out),
         b'C' => drive::calls(side.feeder(source), source, a, b, false, out),
         b'c' => drive::calls(side.feeder(source), source, a, b, true, out),
-        b'R' => shown("table", read(side, source, a.min(TABLE_ROOM)), true, out),
-        b'P' => shown("print", print(side, source, a, b.min(OUTPUT_ROOM)), true, out),
+        b'R' => result("table", read(side, source, a.min(TABLE_ROOM)), true, out),
+        b'P' => result("print", print(side, source, a, b.min(OUTPUT_ROOM)), true, out),
         b'W' => {
             let table = read(side, source, TABLE_ROOM);
             let text = table.and_then(|table| print(side, &table, a, OUTPUT_ROOM));
-            shown("text", text, false, out)
+            result("text", text, false, out)
         }
         b'K' => match side.check(source, a == 1) {
             Ok(_) => out.extend(b"good\n"),
             Err(refusal) => refusal.line(out),
         },
+        b'V' => windows::answers(side, &Calls::of(source), a, out),
+        b'v' => windows::insides(&Calls::of(source), out),
         op => panic!("no op {op}"),
     }
     out.extend(b".\n");
@@ -77,15 +80,18 @@ pub fn print(side: &dyn Side, table: &[u8], width: usize, room: usize) -> Result
     if text.len() > room { Err(refusal(18, text.len())) } else { Ok(text) }
 }
 
-/// The bytes in hex or the refusal. No correct answer touches a byte beyond its own, so it is always `kept`.
-fn shown(word: &str, result: Result<Vec<u8>, Refusal>, rooms: bool, out: &mut Vec<u8>) {
+/// How many bytes, and a line of them in hex.
+pub fn shown(word: &str, bytes: &[u8], out: &mut Vec<u8>) {
+    writeln!(out, "{word} {}", bytes.len()).expect("a vector takes every byte");
+    let digit = |half: u8| b"0123456789abcdef"[half as usize];
+    out.extend(bytes.iter().flat_map(|byte| [digit(byte >> 4), digit(byte & 15)]));
+    out.push(b'\n');
+}
+
+/// The bytes or the refusal. No correct answer touches a byte beyond its own, so it is always `kept`.
+fn result(word: &str, result: Result<Vec<u8>, Refusal>, rooms: bool, out: &mut Vec<u8>) {
     match result {
-        Ok(bytes) => {
-            writeln!(out, "{word} {}", bytes.len()).expect("a vector takes every byte");
-            let digit = |half: u8| b"0123456789abcdef"[half as usize];
-            out.extend(bytes.iter().flat_map(|byte| [digit(byte >> 4), digit(byte & 15)]));
-            out.push(b'\n');
-        }
+        Ok(bytes) => shown(word, &bytes, out),
         Err(refusal) => refusal.line(out),
     }
     if rooms {

@@ -1,4 +1,4 @@
-//! The oracle: makes cases for the probe and holds its answers against the Rust crate and document 01.
+//! The oracle: makes cases for the probe and holds its answers against the Rust crate and the documents.
 
 // The crate's own files, unchanged, and never to be formatted from here. What they have beyond the
 // lexer and the layout goes unused.
@@ -41,6 +41,7 @@ mod sample;
 mod stand_in;
 mod token;
 mod tree;
+mod windows;
 mod worked;
 
 use std::process::ExitCode;

@@ -1,5 +1,9 @@
-//! Document 01's cases that are worked by hand, and some like them, with the answers by hand.
+//! Document 01's cases that are worked by hand, and some like them and for document 02, with the answers by hand.
 //! They come first in every comparison and sample, and the tests hold both sides against them.
+
+// by its path, for host/src names this file by its own
+#[path = "worked/windows.rs"]
+mod windows;
 
 use crate::frame::Frame;
 
@@ -16,6 +20,7 @@ fn cases() -> Vec<Case> {
     cases.extend(reading());
     cases.extend(printing());
     cases.extend(checking());
+    cases.extend(windows::cases());
     cases
 }
 

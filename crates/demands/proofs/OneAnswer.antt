@@ -2,6 +2,7 @@
 use Prim.Native.Nat.{ℕ, _≤_}
 use mathlib.Core.Path.{_≡_, refl, sym, ap, _∙_}
 use mathlib.Core.Bool.{Bool, true, false}
+use mathlib.Core.List.{List}
 use native.Mathlib.Omega.{arith}
 use lib.Dec.{leb}
 use borrow.Author.Tests.{leb-true, leb-false}
@@ -34,6 +35,13 @@ use Rattle.printer.specs.Printing.{printOf}
 use Rattle.reader.specs.declared.Readout.{Readout}
 use Rattle.reader.specs.declared.Readout.the-variants as read
 use Rattle.reader.specs.Reading.{readOf}
+use Rattle.windows.specs.declared.Answer.{Answer as WindowAnswer}
+use Rattle.windows.specs.declared.Answer.the-variants as window
+use Rattle.windows.specs.declared.Filled.{Filled}
+use Rattle.windows.specs.declared.Moved.{Moved}
+use Rattle.windows.specs.declared.Cursor.{Cursor}
+use Rattle.windows.specs.declared.State.{State as WindowState}
+use Rattle.windows.specs.Filling.{Call, answerOf as partOf, callOf, callAt}
 use Rattle.demands.specs.OneAnswer.{SignedFits, TokenFits, LexedFits, AnswerFits, OutFits, FedFits, OneAnswer}
 
 -- ---- the views tell results apart that the machine can hold
@@ -153,6 +161,36 @@ print-same (printed.Text n) (printed.Refused s) e = cc
 print-same (printed.Refused r) (printed.Text m) e = cc
 print-same (printed.Refused r) (printed.Refused s) e = ap printed.Refused (refusal-same r s (cc) (cc))
 
+part-same : (a b : WindowAnswer) → partOf a ≡ partOf b → a ≡ b
+part-same (window.Bytes n) (window.Bytes m) e = ap window.Bytes (cc)
+part-same (window.Bytes n) window.End e = cc
+part-same (window.Bytes n) (window.Refused s) e = cc
+part-same window.End (window.Bytes m) e = cc
+part-same window.End window.End e = refl
+part-same window.End (window.Refused s) e = cc
+part-same (window.Refused r) (window.Bytes m) e = cc
+part-same (window.Refused r) window.End e = cc
+part-same (window.Refused r) (window.Refused s) e = ap window.Refused (refusal-same r s (cc) (cc))
+
+pub fill-same : (f g : Filled) (b c : List ℕ) → callOf f b ≡ callOf g c → (f ≡ g) × (b ≡ c)
+fill-same f g b c e = (
+  at (f .answer) (g .answer) (f .state) (g .state) (part-same (f .answer) (g .answer) (ap (λ (x : Call). x .answer) e)) (ap (λ (x : Call). x .state) e),
+  ap (λ (x : Call). x .window) e,
+)
+  where
+    at : (a b : WindowAnswer) (s t : WindowState) → a ≡ b → s ≡ t → _≡_ {A = Filled} (record { answer = a; state = s }) (record { answer = b; state = t })
+    at a b s t e f = rw (e, f) refl
+
+pub moved-same : (m n : Moved) (k l b c : List ℕ) → callAt m k b ≡ callAt n l c → (m ≡ n) × (k ≡ l) × (b ≡ c)
+moved-same m n k l b c e = (
+  at (m .answer) (n .answer) (m .cursor) (n .cursor) (part-same (m .answer) (n .answer) (ap (λ (x : Call). x .answer) e)) (ap (λ (x : Call). x .state .cursor) e),
+  ap (λ (x : Call). x .state .stack) e,
+  ap (λ (x : Call). x .window) e,
+)
+  where
+    at : (a b : WindowAnswer) (s t : Cursor) → a ≡ b → s ≡ t → _≡_ {A = Moved} (record { answer = a; cursor = s }) (record { answer = b; cursor = t })
+    at a b s t e f = rw (e, f) refl
+
 -- the lesser of two, by which of them it is
 least-same : (a b x y : ℕ) → (x ≤ b) × (a ≤ b → x ≡ a) × (b ≤ a → x ≡ b) → (y ≤ b) × (a ≤ b → y ≡ a) × (b ≤ a → y ≡ b) → x ≡ y
 least-same a b x y e f = by (leb a b) refl
@@ -220,7 +258,13 @@ one-answer = record {
   table·past = λ κs a x y s t e f. e ∙ sym f;
   table·check = λ κs a x y s t e f. verdict-same x y (e ∙ sym f);
   reader·read = λ κs a x y s t e f. (read-same x y (e .0 ∙ sym (f .0)), e .1 ∙ sym (f .1));
+  printer·cost·break-column = λ κs a x y s t e f. e ∙ sym f;
+  printer·cost·fits-in = λ κs a x y s t e f. e ∙ sym f;
+  printer·cost·fits = λ κs a x y s t e f. e ∙ sym f;
   printer·print = λ κs a x y s t e f. (print-same x y (e .0 ∙ sym (f .0)), e .1 ∙ sym (f .1));
+  windows·fresh = λ κs a x y s t e f. e ∙ sym f;
+  windows·fill = λ κs a x y s t e f. fill-same x y _ _ (e ∙ sym f);
+  windows·fill-in = λ κs a x y s t e f. moved-same x y _ _ _ _ (e ∙ sym f);
   feeder-lent·feed-in = λ s piece x y m n h k e f. lent-same x y m n h k (e ∙ sym f);
   feeder-lent·close-in = λ s x y m n h k e f. lent-same x y m n h k (e ∙ sym f);
 }

@@ -16,5 +16,6 @@ one-answer-doors = record {
   tulbazhik-feed·states·pack = λ κs a x y s t e f. e ∙ sym f;
   tulbazhik-feed·states·unpack = λ κs a x y s t e f. e ∙ sym f;
   tulbazhik-trees·tulbazhik-read = λ κs a x y s t e f. (e .0 ∙ sym (f .0), e .1 ∙ sym (f .1));
+  tulbazhik-windows·tulbazhik-fill = λ κs a x y s t e f. (e .0 ∙ sym (f .0), e .1 ∙ sym (f .1), e .2 ∙ sym (f .2));
   tulbazhik-trees·tulbazhik-print = λ κs a x y s t e f. (e .0 ∙ sym (f .0), e .1 ∙ sym (f .1));
 }

@@ -28,7 +28,7 @@ use Rattle.demands.proofs.PrintedTokens.{printed}
 pub page-yields : (xs : Trees) (w : ℕ) → Spellables xs → length (page xs w) ≤ sourceLimit → Yields (page xs w) xs
 page-yields xs w h l ps n e c = ap (bareTokens (page xs w)) (cut-anywhere (page xs w) ps n e l c) ∙ printed xs w h l
 
-text-of : (t : List ℕ) (xs : Trees) (q w : ℕ) → Bytes t → tableOf true t ≡ ok (found xs q) → length (page xs w) ≤ sourceLimit → TextOf t (page xs w)
+pub text-of : (t : List ℕ) (xs : Trees) (q w : ℕ) → Bytes t → tableOf true t ≡ ok (found xs q) → length (page xs w) ≤ sourceLimit → TextOf t (page xs w)
 text-of t xs q w hb e l =
     let a : Accepted true t xs q = sound true t xs q hb e in
     record { trees = xs; good = a .good; is = a .is; yields = page-yields xs w (spellables xs depthLimit (a .good) (a .printable refl)) l }

@@ -5,6 +5,11 @@ use Rattle.table.proofs.Faults as table-faults
 use Rattle.reader.proofs.ReadGood as reader-good
 use Rattle.reader.proofs.ReadTokens as reader-tokens
 use Rattle.reader.proofs.ReadAccepts as reader-accepts
+use Rattle.windows.proofs.AnyCall as windows-any
+use Rattle.windows.proofs.NeverRoom as windows-room
+use Rattle.windows.proofs.Joined as windows-joint
+use Rattle.windows.proofs.Printed as windows-print
+use Rattle.tulbazhik_windows.proofs.Twins as door-twins
 use Rattle.demands.specs.Theorems.{Theorems}
 use Rattle.demands.proofs.OneAnswer as the-one
 use Rattle.demands.proofs.OneAnswerDoors as the-doors
@@ -15,6 +20,7 @@ use Rattle.demands.proofs.PackedStates as the-states
 use Rattle.demands.proofs.CutWords as the-words
 use Rattle.demands.proofs.Calls as the-rules
 use Rattle.demands.proofs.PrintThenFeed as the-print
+use Rattle.demands.proofs.WindowsThenFeed as the-windows
 
 pub theorems : Theorems
 theorems = record {
@@ -29,9 +35,21 @@ theorems = record {
   read-good = reader-good.read-good;
   read-tokens = reader-tokens.read-tokens;
   read-accepts = reader-accepts.read-accepts;
+  windows-joined = windows-joint.windows-joined;
+  windows-end = windows-joint.windows-end;
+  windows-refused = windows-joint.windows-refused;
+  windows-printed = windows-print.windows-printed;
+  print-refused = windows-print.print-refused;
+  through-words = door-twins.through-words;
+  given-within = windows-any.given-within;
+  no-room = windows-any.no-room;
+  end-stays = windows-any.end-stays;
+  refused-at-first = windows-any.refused-at-first;
+  never-room = windows-room.never-room;
   cut-anywhere = the-cut.cut-anywhere;
   packed-states = the-states.packed-states;
   cut-anywhere-words = the-words.cut-anywhere-words;
   calls = the-rules.calls;
   print-then-feed = the-print.print-then-feed;
+  windows-then-feed = the-windows.windows-then-feed;
 }

@@ -62,7 +62,13 @@ use Rattle.table.proofs.past_symbol.Reads as table-past-symbol
 use Rattle.table.proofs.past.Reads as table-past
 use Rattle.table.proofs.check.Reads as table-check
 use Rattle.reader.proofs.read.Reads as reader-read
+use Rattle.printer.proofs.cost.break_column.Reads as printer-cost-break-column
+use Rattle.printer.proofs.cost.fits_in.Reads as printer-cost-fits-in
+use Rattle.printer.proofs.cost.fits.Reads as printer-cost-fits
 use Rattle.printer.proofs.print.Reads as printer-print
+use Rattle.windows.proofs.fresh.Reads as windows-fresh
+use Rattle.windows.proofs.fill.Reads as windows-fill
+use Rattle.windows.proofs.fill_in.Reads as windows-fill-in
 
 -- A contract speaks of the lifetimes, the arguments, the result, and what is lent as it is at the function's end. Two results that meet it are equal
 abbrev pub One : {K : Type 0} {A R S : K → Type 0} → ((κs : K) → A κs → R κs → S κs → Type 0) → Type 0
@@ -72,7 +78,7 @@ One {K} {A} {R} {S} P = (κs : K) (a : A κs) (x y : R κs) (s t : S κs) → P 
 abbrev pub OneHeld : {K C : Type 0} {A S : K → Type 0} → (C → Type 0) → ((κs : K) → A κs → C → S κs → Type 0) → Type 0
 OneHeld {K} {C} {A} {S} H P = (κs : K) (a : A κs) (x y : C) (s t : S κs) → H x → H y → P κs a x s → P κs a y t → x ≡ y
 
--- what is left in the lent memory m; in two of them; and a result with it
+-- what is left in the lent memory m; in two of them, or three; and a result with one, and with two
 abbrev pub Left : {K B : Type 0} {A R S : K → Type 0} → ((κs : K) → A κs → R κs → S κs → Type 0) → ((κs : K) → S κs → B) → Type 0
 Left {K} {B} {A} {R} {S} P m = (κs : K) (a : A κs) (x y : R κs) (s t : S κs) → P κs a x s → P κs a y t → m κs s ≡ m κs t
 
@@ -80,8 +86,17 @@ abbrev pub LeftTwo : {K B C : Type 0} {A R S : K → Type 0} → ((κs : K) → 
 LeftTwo {K} {B} {C} {A} {R} {S} P m n =
     (κs : K) (a : A κs) (x y : R κs) (s t : S κs) → P κs a x s → P κs a y t → (m κs s ≡ m κs t) × (n κs s ≡ n κs t)
 
+abbrev pub LeftThree : {K B C D : Type 0} {A R S : K → Type 0}
+    → ((κs : K) → A κs → R κs → S κs → Type 0) → ((κs : K) → S κs → B) → ((κs : K) → S κs → C) → ((κs : K) → S κs → D) → Type 0
+LeftThree {K} {B} {C} {D} {A} {R} {S} P m n o =
+    (κs : K) (a : A κs) (x y : R κs) (s t : S κs) → P κs a x s → P κs a y t → (m κs s ≡ m κs t) × (n κs s ≡ n κs t) × (o κs s ≡ o κs t)
+
 abbrev pub Both : {K B : Type 0} {A R S : K → Type 0} → ((κs : K) → A κs → R κs → S κs → Type 0) → ((κs : K) → S κs → B) → Type 0
 Both {K} {B} {A} {R} {S} P m = (κs : K) (a : A κs) (x y : R κs) (s t : S κs) → P κs a x s → P κs a y t → (x ≡ y) × (m κs s ≡ m κs t)
+
+abbrev pub BothTwo : {K B C : Type 0} {A R S : K → Type 0} → ((κs : K) → A κs → R κs → S κs → Type 0) → ((κs : K) → S κs → B) → ((κs : K) → S κs → C) → Type 0
+BothTwo {K} {B} {C} {A} {R} {S} P m n =
+    (κs : K) (a : A κs) (x y : R κs) (s t : S κs) → P κs a x s → P κs a y t → (x ≡ y) × (m κs s ≡ m κs t) × (n κs s ≡ n κs t)
 
 -- the low limb of an integer that the machine can hold is below 2^64
 abbrev pub WideFits : Wide → Type 0
@@ -162,7 +177,13 @@ pub record OneAnswer : Type 0 where
   pub table·past : One table-past.Post
   pub table·check : One table-check.Post
   pub reader·read : Both reader-read.Post (λ κs s. now (s .1 .0))
+  pub printer·cost·break-column : One printer-cost-break-column.Post
+  pub printer·cost·fits-in : One printer-cost-fits-in.Post
+  pub printer·cost·fits : One printer-cost-fits.Post
   pub printer·print : Both printer-print.Post (λ κs s. now (s .1 .1 .0))
+  pub windows·fresh : One windows-fresh.Post
+  pub windows·fill : Both windows-fill.Post (λ κs s. now (s .1 .1 .1 .0))
+  pub windows·fill-in : BothTwo windows-fill-in.Post (λ κs s. now (s .1 .1 .1 .0)) (λ κs s. now (s .1 .1 .1 .1 .0))
   -- the lent entrance: what its contracts say stands in LentPromises
   pub feeder-lent·feed-in : (s : State) (piece : List ℕ) (x y : Out) (m n : State) → OutFits x → OutFits y → FedIn s piece x m → FedIn s piece y n → (x ≡ y) × (m ≡ n)
   pub feeder-lent·close-in : (s : State) (x y : Out) (m n : State) → OutFits x → OutFits y → ClosedIn s x m → ClosedIn s y n → (x ≡ y) × (m ≡ n)

@@ -13,9 +13,10 @@ use Rattle.tulbazhik_feed.proofs.states.pack.Reads as tulbazhik-feed-states-pac
 use Rattle.tulbazhik_feed.proofs.states.unpack.Reads as tulbazhik-feed-states-unpack
 use Rattle.tulbazhik_trees.proofs.tulbazhik_read.Reads as tulbazhik-trees-tulbazhik-read
 use Rattle.tulbazhik_trees.proofs.tulbazhik_print.Reads as tulbazhik-trees-tulbazhik-print
-use Rattle.demands.specs.OneAnswer.{One, Left, LeftTwo}
+use Rattle.tulbazhik_windows.proofs.tulbazhik_fill.Reads as tulbazhik-windows-tulbazhik-fill
+use Rattle.demands.specs.OneAnswer.{One, Left, LeftTwo, LeftThree}
 
--- a field a public function; of the lent memories the words of the state and of the answer, and the table or the text
+-- a field a public function; of the lent memories the words of the state and of the answer, and the table, the text or the window
 pub record OneAnswerDoors : Type 0 where
   pub words·put-token : Left words-put-token.Post (λ κs s. now (s .1 .1 .1 .0))
   pub words·put-refusal : Left words-put-refusal.Post (λ κs s. now (s .1 .1 .0))
@@ -30,3 +31,4 @@ pub record OneAnswerDoors : Type 0 where
   pub tulbazhik-feed·states·unpack : One tulbazhik-feed-states-unpack.Post
   pub tulbazhik-trees·tulbazhik-read : LeftTwo tulbazhik-trees-tulbazhik-read.Post (λ κs s. now (s .1 .1 .0)) (λ κs s. now (s .1 .0))
   pub tulbazhik-trees·tulbazhik-print : LeftTwo tulbazhik-trees-tulbazhik-print.Post (λ κs s. now (s .1 .1 .1 .0)) (λ κs s. now (s .1 .1 .0))
+  pub tulbazhik-windows·tulbazhik-fill : LeftThree tulbazhik-windows-tulbazhik-fill.Post (λ κs s. now (s .1 .1 .1 .1 .0)) (λ κs s. now (s .1 .1 .0)) (λ κs s. now (s .1 .1 .1 .0))

@@ -1,4 +1,4 @@
--- What is printed, cut anywhere, fed and closed, gives the tokens of what was printed: THEOREM print-then-feed.
+-- What is printed, whole or through windows, cut anywhere, fed and closed, gives the tokens of what was printed: THEOREMS print-then-feed, windows-then-feed.
 use mathlib.Core.Path.{_≡_}
 use mathlib.Core.List.{List}
 use Prim.Native.Nat.{ℕ, _+_, _*_, _≤_, _<_}
@@ -11,6 +11,9 @@ use Rattle.lexer.specs.BareTokens.{bareTokens}
 use Rattle.feeder.specs.Feeding.{freshState}
 use Rattle.table.specs.Trees.{Trees, treesTokens, Goods, recordsOf}
 use Rattle.printer.specs.Printing.{printing, printedInto}
+use Rattle.windows.specs.declared.State.{State}
+use Rattle.windows.specs.Filling.{end, fillOf, calls}
+use Rattle.windows.specs.Joined.{Begins}
 use Rattle.demands.specs.Driver.{drive, joined}
 
 -- the source o, cut anywhere, fed and closed, yields exactly the trees' tokens in order, then the end
@@ -28,3 +31,9 @@ pub record TextOf (t o : List ℕ) : Type 0 where
 -- bytes yield exactly their tokens
 abbrev pub PrintThenFeed : Type 0
 PrintThenFeed = (t : List ℕ) (w m : ℕ) (b : List ℕ) → Bytes t → printing t w (length b) ≡ ok m → m ≤ sourceLimit → TextOf t (take m (printedInto t w b))
+
+-- if a call answers the end, then what the windows bs before it were given, joined, does the same
+abbrev pub WindowsThenFeed : Type 0
+WindowsThenFeed =
+    (t : List ℕ) (w : ℕ) (s : State) (bs : List (List ℕ)) (b : List ℕ) → Bytes t → Begins s → fillOf t w (calls t w s bs .state) b .answer ≡ ok end
+    → length (calls t w s bs .out) ≤ sourceLimit → TextOf t (calls t w s bs .out)

@@ -24,10 +24,15 @@ use Rattle.table.specs.Trees.{isSymbol}
 use Rattle.table.specs.Records.{recordAt}
 use Rattle.table.specs.Decoding.{stepAt, treeAt, tableOf, judged, verdictOf}
 use Rattle.table.specs.Past.{pastSymbol, pastOf}
+use Rattle.printer.specs.Layout.{breakColumn, fitsIn}
+use Rattle.printer.specs.Fitting.{fitsAt}
 use Rattle.printer.specs.Printing.{printOf, printing as printingOf, printedInto}
+use Rattle.windows.specs.Machine.{state, freshState as freshWindow}
+use Rattle.windows.specs.Filling.{fillOf, callOf, callAt}
 use Rattle.reader.specs.Reading.{readOf, reading as readingOf, readInto}
 use Rattle.words.specs.Words.{tokenWords, refusedWords, doneWords, answerWords, replyWords, fedWords, lengthWords}
 use Rattle.tulbazhik_feed.specs.States.{packOf, unpackOf, stateWords}
+use Rattle.tulbazhik_windows.specs.States.{unpackOf as unpackWindow, callWords, stateWords as windowWords}
 use denote.Ref.{now}
 use Rattle.lists.proofs.byte_at.Reads as lists-byte-at
 use Rattle.lists.proofs.less.Reads as lists-less
@@ -74,7 +79,13 @@ use Rattle.table.proofs.past_symbol.Reads as table-past-symbol
 use Rattle.table.proofs.past.Reads as table-past
 use Rattle.table.proofs.check.Reads as table-check
 use Rattle.reader.proofs.read.Reads as reader-read
+use Rattle.printer.proofs.cost.break_column.Reads as printer-cost-break-column
+use Rattle.printer.proofs.cost.fits_in.Reads as printer-cost-fits-in
+use Rattle.printer.proofs.cost.fits.Reads as printer-cost-fits
 use Rattle.printer.proofs.print.Reads as printer-print
+use Rattle.windows.proofs.fresh.Reads as windows-fresh
+use Rattle.windows.proofs.fill.Reads as windows-fill
+use Rattle.windows.proofs.fill_in.Reads as windows-fill-in
 use Rattle.words.proofs.put_token.Reads as words-put-token
 use Rattle.words.proofs.put_refusal.Reads as words-put-refusal
 use Rattle.words.proofs.put_length.Reads as words-put-length
@@ -88,6 +99,7 @@ use Rattle.tulbazhik_feed.proofs.states.pack.Reads as tulbazhik-feed-states-pac
 use Rattle.tulbazhik_feed.proofs.states.unpack.Reads as tulbazhik-feed-states-unpack
 use Rattle.tulbazhik_trees.proofs.tulbazhik_read.Reads as tulbazhik-trees-tulbazhik-read
 use Rattle.tulbazhik_trees.proofs.tulbazhik_print.Reads as tulbazhik-trees-tulbazhik-print
+use Rattle.tulbazhik_windows.proofs.tulbazhik_fill.Reads as tulbazhik-windows-tulbazhik-fill
 
 pub record Promises : Type 1 where
   pub lists·byte-at : (κs : _) (a : _) (x : _) (s : _) → lists-byte-at.Post κs a x s ≡ (x ≡ getD (now (a .0)) (a .1 .0) 0)
@@ -135,7 +147,13 @@ pub record Promises : Type 1 where
   pub table·past : (κs : _) (a : _) (x : _) (s : _) → table-past.Post κs a x s ≡ (x ≡ pastOf (a .1 .0) (treeAt (now (a .0)) false depthLimit (a .1 .0)))
   pub table·check : (κs : _) (a : _) (x : _) (s : _) → table-check.Post κs a x s ≡ (verdictOf x ≡ judged (tableOf (a .1 .0) (now (a .0))))
   pub reader·read : (κs : _) (a : _) (x : _) (s : _) → reader-read.Post κs a x s ≡ ((readOf x ≡ readingOf (now (a .0)) (length (now (a .1 .0)))) × (now (s .1 .0) ≡ readInto (now (a .0)) (now (a .1 .0))))
+  pub printer·cost·break-column : (κs : _) (a : _) (x : _) (s : _) → printer-cost-break-column.Post κs a x s ≡ (x ≡ breakColumn (a .0))
+  pub printer·cost·fits-in : (κs : _) (a : _) (x : _) (s : _) → printer-cost-fits-in.Post κs a x s ≡ (x ≡ fitsIn (a .0) (a .1 .0) (a .1 .1 .0))
+  pub printer·cost·fits : (κs : _) (a : _) (x : _) (s : _) → printer-cost-fits.Post κs a x s ≡ (x ≡ fitsAt (now (a .0)) (a .1 .0) (a .1 .1 .0) (a .1 .1 .1 .0))
   pub printer·print : (κs : _) (a : _) (x : _) (s : _) → printer-print.Post κs a x s ≡ ((printOf x ≡ printingOf (now (a .0)) (a .1 .0) (length (now (a .1 .1 .0)))) × (now (s .1 .1 .0) ≡ printedInto (now (a .0)) (a .1 .0) (now (a .1 .1 .0))))
+  pub windows·fresh : (κs : _) (a : _) (x : _) (s : _) → windows-fresh.Post κs a x s ≡ (x ≡ freshWindow)
+  pub windows·fill : (κs : _) (a : _) (x : _) (s : _) → windows-fill.Post κs a x s ≡ (callOf x (now (s .1 .1 .1 .0)) ≡ fillOf (now (a .0)) (a .1 .0) (a .1 .1 .0) (now (a .1 .1 .1 .0)))
+  pub windows·fill-in : (κs : _) (a : _) (x : _) (s : _) → windows-fill-in.Post κs a x s ≡ (callAt x (now (s .1 .1 .1 .0)) (now (s .1 .1 .1 .1 .0)) ≡ fillOf (now (a .0)) (a .1 .0) (state (a .1 .1 .0) (now (a .1 .1 .1 .0))) (now (a .1 .1 .1 .1 .0)))
   pub words·put-token : (κs : _) (a : _) (x : _) (s : _) → words-put-token.Post κs a x s ≡ (now (s .1 .1 .1 .0) ≡ tokenWords (tokenOf (a .0) (a .1 .0)) (a .1 .1 .0))
   pub words·put-refusal : (κs : _) (a : _) (x : _) (s : _) → words-put-refusal.Post κs a x s ≡ (now (s .1 .1 .0) ≡ refusedWords ((a .0) .number) ((a .0) .place) (a .1 .0))
   pub words·put-length : (κs : _) (a : _) (x : _) (s : _) → words-put-length.Post κs a x s ≡ (now (s .1 .0) ≡ doneWords (a .0))
@@ -149,3 +167,4 @@ pub record Promises : Type 1 where
   pub tulbazhik-feed·states·unpack : (κs : _) (a : _) (x : _) (s : _) → tulbazhik-feed-states-unpack.Post κs a x s ≡ (x ≡ unpackOf (a .0))
   pub tulbazhik-trees·tulbazhik-read : (κs : _) (a : _) (x : _) (s : _) → tulbazhik-trees-tulbazhik-read.Post κs a x s ≡ ((now (s .1 .1 .0) ≡ lengthWords (readingOf (now (a .0)) (length (now (a .1 .0))))) × (now (s .1 .0) ≡ readInto (now (a .0)) (now (a .1 .0))))
   pub tulbazhik-trees·tulbazhik-print : (κs : _) (a : _) (x : _) (s : _) → tulbazhik-trees-tulbazhik-print.Post κs a x s ≡ ((now (s .1 .1 .1 .0) ≡ lengthWords (printingOf (now (a .0)) (a .1 .0) (length (now (a .1 .1 .0))))) × (now (s .1 .1 .0) ≡ printedInto (now (a .0)) (a .1 .0) (now (a .1 .1 .0))))
+  pub tulbazhik-windows·tulbazhik-fill : (κs : _) (a : _) (x : _) (s : _) → tulbazhik-windows-tulbazhik-fill.Post κs a x s ≡ ((now (s .1 .1 .1 .1 .0) ≡ callWords (fillOf (now (a .0)) (a .1 .0) (unpackWindow (now (a .1 .1 .0))) (now (a .1 .1 .1 .0)))) × (now (s .1 .1 .0) ≡ windowWords (fillOf (now (a .0)) (a .1 .0) (unpackWindow (now (a .1 .1 .0))) (now (a .1 .1 .1 .0)))) × (now (s .1 .1 .1 .0) ≡ fillOf (now (a .0)) (a .1 .0) (unpackWindow (now (a .1 .1 .0))) (now (a .1 .1 .1 .0)) .window))

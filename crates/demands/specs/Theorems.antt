@@ -14,6 +14,9 @@ use Rattle.table.specs.Printable.{Printables}
 use Rattle.table.specs.Accepted.{Accepted}
 use Rattle.table.specs.Faults.{FaultPlaced}
 use Rattle.reader.specs.Promised.{ReadGood, ReadTokens, ReadAccepts}
+use Rattle.windows.specs.AnyCall.{GivenWithin, NoRoom, EndStays, RefusedAtFirst, NeverRoom}
+use Rattle.windows.specs.Joined.{WindowsJoined, WindowsEnd, WindowsRefused, WindowsPrinted, PrintRefused}
+use Rattle.tulbazhik_windows.specs.States.{ThroughWords}
 use Rattle.demands.specs.OneAnswer.{OneAnswer}
 use Rattle.demands.specs.OneAnswerDoors.{OneAnswerDoors}
 use Rattle.demands.specs.Worked.{Worked}
@@ -21,7 +24,7 @@ use Rattle.demands.specs.WrongPrograms.{WrongPrograms}
 use Rattle.demands.specs.Driver.{CutAnywhere}
 use Rattle.demands.specs.DriverWords.{PackedStates, CutAnywhereWords}
 use Rattle.demands.specs.Rules.{Rules}
-use Rattle.demands.specs.PrintThenFeed.{PrintThenFeed}
+use Rattle.demands.specs.PrintThenFeed.{PrintThenFeed, WindowsThenFeed}
 
 pub record Theorems : Type 0 where
   -- Demand 1: every call ends with a defined answer. That it ends and what it answers is each function's contract; that the contract leaves nothing open:
@@ -41,11 +44,28 @@ pub record Theorems : Type 0 where
   pub read-good : ReadGood
   pub read-tokens : ReadTokens
   pub read-accepts : ReadAccepts
+  -- the windows of a table, whatever their lengths, joined are its text, and then the end is answered; what is refused is refused at the first call
+  pub windows-joined : WindowsJoined
+  pub windows-end : WindowsEnd
+  pub windows-refused : WindowsRefused
+  -- the text is the ordinary print's, and so are the refusals but for room
+  pub windows-printed : WindowsPrinted
+  pub print-refused : PrintRefused
+  -- a host that keeps the 72 words of the door for C gets the same bytes and answers
+  pub through-words : ThroughWords
+  -- on any table, width and state a call reports no more than its window holds, and past that the window stays; one with no room moves nothing; the end stays; only the
+  -- first call refuses, gives its state back, and never refuses for room
+  pub given-within : GivenWithin
+  pub no-room : NoRoom
+  pub end-stays : EndStays
+  pub refused-at-first : RefusedAtFirst
+  pub never-room : NeverRoom
   -- Demand 3: a source cut anywhere, fed and closed, yields the tokens, places and refusal of the uncut one; by value, and through the words of the doors for C
   pub cut-anywhere : CutAnywhere
   pub packed-states : PackedStates
   pub cut-anywhere-words : CutAnywhereWords
   -- the rules of a call
   pub calls : Rules
-  -- what is printed, so fed, yields exactly the table's tokens, then the end
+  -- what is printed, whole or through windows, so fed, yields exactly the table's tokens, then the end
   pub print-then-feed : PrintThenFeed
+  pub windows-then-feed : WindowsThenFeed

@@ -9,18 +9,23 @@ use Rattle.lexer.specs.Tokens.{symbol, int, token}
 use Rattle.lexer.specs.Streams.{Stream, ends, then, tokensOf}
 use Rattle.reader.specs.Reading.{reading, readInto}
 use Rattle.printer.specs.Printing.{printing, printedInto}
+use Rattle.windows.specs.declared.State.{State}
+use Rattle.windows.specs.Machine.{freshState}
+use Rattle.windows.specs.Filling.{Answer, part, end, fillOf, calls}
 
--- a source is lexed, or read into a room, or read and then printed at a width into a room; or a table is so printed
+-- a source is lexed, or read into a room, or read and then printed at a width into a room; or a table is so printed, or printed through windows of given lengths
 pub data Run : Type 0 where
   lexed : List ℕ → Run
   read : List ℕ → Run
   printed : List ℕ → ℕ → Run
   table : List ℕ → ℕ → Run
+  windowed : List ℕ → ℕ → List ℕ → Run
 
--- tokens and how they end; the bytes of a table or of a text, or the refusal
+-- tokens and how they end; the bytes of a table or of a text, or the refusal; what each call answers, and the windows joined
 pub data Outcome : Type 0 where
   tokens : Stream → Outcome
   bytes : Result (List ℕ) → Outcome
+  parts : List Answer → List ℕ → Outcome
 
 abbrev room : List ℕ
 room = replicate 80 0
@@ -35,12 +40,21 @@ tabled s = front (reading s 80) (readInto s room)
 abbrev texted : List ℕ → ℕ → Result (List ℕ)
 texted t w = front (printing t w 80) (printedInto t w room)
 
+-- a window of n bytes is not empty before the call
+abbrev window : ℕ → List ℕ
+window n = replicate n 7
+
+abbrev answers : List ℕ → ℕ → State → List ℕ → List Answer
+answers t w s [] = []
+answers t w s (n ∷ ns) = fillOf t w s (window n) .answer ∷ answers t w (fillOf t w s (window n) .state) ns
+
 -- a refused read prints nothing; a table that was read is printed by the contract's own definitions
 abbrev ran : Run → Outcome
 ran (lexed s) = tokens (tokensOf s)
 ran (read s) = bytes (tabled s)
 ran (printed s w) = bytes (andThen (tabled s) (λ t. texted t w))
 ran (table t w) = bytes (texted t w)
+ran (windowed t w ns) = parts (answers t w freshState ns) (calls t w freshState (map window ns) .out)
 
 pub record Case : Type 0 where
   pub run : Run
@@ -52,6 +66,12 @@ case r a = record { run = r; answer = a }
 -- `(rule (a b) c)`
 abbrev rule : List ℕ
 rule = 40 ∷ 114 ∷ 117 ∷ 108 ∷ 101 ∷ 32 ∷ 40 ∷ 97 ∷ 32 ∷ 98 ∷ 41 ∷ 32 ∷ 99 ∷ 41 ∷ []
+
+-- its table
+abbrev ruleTable : List ℕ
+ruleTable =
+    10 ∷ 0 ∷ 0 ∷ 0 ∷ 4 ∷ 0 ∷ 3 ∷ 0 ∷ 0 ∷ 0 ∷ 10 ∷ 0 ∷ 0 ∷ 0 ∷ 1 ∷ 0 ∷ 114 ∷ 117 ∷ 108 ∷ 101 ∷ 10 ∷ 0 ∷ 0 ∷ 0 ∷ 4 ∷ 0 ∷ 2 ∷ 0 ∷ 0 ∷ 0 ∷ 7 ∷ 0 ∷ 0 ∷ 0 ∷ 1 ∷ 0 ∷ 97 ∷ 7 ∷ 0 ∷ 0 ∷ 0 ∷ 1 ∷ 0 ∷ 98 ∷ 7 ∷ 0 ∷ 0 ∷ 0
+    ∷ 1 ∷ 0 ∷ 99 ∷ []
 
 unfoldable pub cases : List Case
 cases =
@@ -89,6 +109,14 @@ cases =
     ∷ case (table (11 ∷ 0 ∷ 0 ∷ 0 ∷ 4 ∷ 0 ∷ 0 ∷ 0 ∷ 0 ∷ 0 ∷ 0 ∷ []) 0) (bytes (refused 21 0))
     ∷ case (table (10 ∷ 0 ∷ 0 ∷ 0 ∷ 4 ∷ 0 ∷ 1 ∷ 0 ∷ 0 ∷ 0 ∷ []) 0) (bytes (refused 22 10))
     ∷ case (table (10 ∷ 0 ∷ 0 ∷ 0 ∷ 4 ∷ 0 ∷ 1 ∷ 0 ∷ 0 ∷ 0 ∷ 7 ∷ []) 0) (bytes (refused 15 10))
+    -- document 02, 2/12: `(rule (a b) c)` at width 13 through windows of 5, 0, 9, 9, 3 and 0 bytes, then 2; through one of 24; no trees; a table that is refused, and refused again
+    ∷ case (windowed ruleTable 13 (5 ∷ 0 ∷ 9 ∷ 9 ∷ 3 ∷ 0 ∷ 2 ∷ []))
+    (parts (ok (part 5) ∷ ok (part 0) ∷ ok (part 9) ∷ ok (part 9) ∷ ok (part 1) ∷ ok end ∷ ok end ∷ [])
+    (40 ∷ 114 ∷ 117 ∷ 108 ∷ 101 ∷ 10 ∷ 32 ∷ 32 ∷ 32 ∷ 32 ∷ 40 ∷ 97 ∷ 32 ∷ 98 ∷ 41 ∷ 10 ∷ 32 ∷ 32 ∷ 32 ∷ 32 ∷ 99 ∷ 10 ∷ 41 ∷ 10 ∷ []))
+    ∷ case (windowed ruleTable 14 (24 ∷ []))
+    (parts (ok (part 15) ∷ []) (40 ∷ 114 ∷ 117 ∷ 108 ∷ 101 ∷ 32 ∷ 40 ∷ 97 ∷ 32 ∷ 98 ∷ 41 ∷ 32 ∷ 99 ∷ 41 ∷ 10 ∷ []))
+    ∷ case (windowed [] 0 (0 ∷ 1 ∷ [])) (parts (ok end ∷ ok end ∷ []) [])
+    ∷ case (windowed (6 ∷ 0 ∷ 0 ∷ 0 ∷ 5 ∷ 0 ∷ []) 0 (0 ∷ 1 ∷ [])) (parts (refused 20 0 ∷ refused 20 0 ∷ []) [])
     ∷ []
 
 abbrev pub Worked : Type 0

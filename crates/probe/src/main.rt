@@ -1,15 +1,17 @@
 // Runs any case on the proved code and prints what it answers: frames on standard input, an answer for each on standard output.
 // A frame is an op byte, three numbers a, b, n of four bytes, the lowest first, and n bytes; an answer is some lines and a line with a dot.
 // A frame that the input's end cuts, or that does not fit the source's room, ends the run.
-// The files stdin and stdout beside src/ are `oracle sample --cases 400 stdin stdout`: fixed cases with the Rust's and document 01's answers.
+// The files stdin and stdout beside src/ are `oracle sample --cases 400 stdin stdout`: fixed cases with the Rust's and the documents' answers.
 mod entrances;
 mod feeding;
 mod lexing;
 mod lines;
 mod rooms;
 mod tables;
+mod windowed;
 
 use feeding::Style;
+use windowed::Job;
 
 // More frames than any input has.
 const FRAMES: u64 = 0x7fff_ffff_ffff_ffff;
@@ -65,6 +67,16 @@ fn style(op: u8) -> Style {
     }
 }
 
+// Of V the second number is the layout, and there is one.
+fn job(f: Frame) -> Job {
+    let shown = f.op == b'V';
+    Job {
+        shown,
+        first_width: f.a,
+        later_width: if shown { f.a } else { f.b },
+    }
+}
+
 fn answer(
     page: &mut [u8; 65536],
     n: usize,
@@ -81,6 +93,7 @@ fn answer(
         b'P' => tables::print(page, n, src, f.a, text, f.b),
         b'W' => tables::rewrite(page, n, src, f.a, table, text),
         b'K' => tables::check(page, n, src, f.a == 1),
+        b'V' | b'v' => windowed::print(page, n, job(f), src, table),
         _ => lines::bytes(page, n, b"no such op\n"),
     }
 }

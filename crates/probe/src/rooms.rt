@@ -10,7 +10,7 @@ pub fn source() -> [u8; 1114112]
     [0; 1114112]
 }
 
-// The table of any source that the tests send.
+// The table of any source that the tests send, or the room of a window.
 pub fn table() -> [u8; 3145728]
     ensures { λ r. ⌜ 3145728 ≡ length r ⌝ }
 {

@@ -7,7 +7,7 @@ use table::Checked;
 // What a room holds before a call, so that a byte that the call must not touch shows.
 const MARK: u8 = 0xA5;
 
-fn mark(room: &mut [u8]) {
+pub fn mark(room: &mut [u8]) {
     let mut i = 0;
     while i < room.len() {
         room[i] = MARK;
@@ -16,7 +16,7 @@ fn mark(room: &mut [u8]) {
 }
 
 // Without an early end, so that the loop goes many bytes at a time.
-fn is_marked(rest: &[u8]) -> bool {
+pub fn is_marked(rest: &[u8]) -> bool {
     let mut other: u8 = 0;
     let mut i = 0;
     while i < rest.len() {
@@ -26,8 +26,8 @@ fn is_marked(rest: &[u8]) -> bool {
     other == 0
 }
 
-fn kept(page: &mut [u8; 65536], n: usize, rest: &[u8]) -> usize {
-    if is_marked(rest) {
+pub fn kept(page: &mut [u8; 65536], n: usize, marked: bool) -> usize {
+    if marked {
         return lines::bytes(page, n, b"kept\n");
     }
     lines::bytes(page, n, b"touched\n")
@@ -55,7 +55,7 @@ fn hex(page: &mut [u8; 65536], n: usize, s: &[u8]) -> usize {
     m
 }
 
-fn shown(page: &mut [u8; 65536], n: usize, word: &[u8], s: &[u8]) -> usize {
+pub fn shown(page: &mut [u8; 65536], n: usize, word: &[u8], s: &[u8]) -> usize {
     let m = lines::bytes(page, n, word);
     let m = lines::number(page, m, s.len());
     let m = lines::line_end(page, m);
@@ -67,7 +67,7 @@ fn shown(page: &mut [u8; 65536], n: usize, word: &[u8], s: &[u8]) -> usize {
 fn written(page: &mut [u8; 65536], n: usize, word: &[u8], room: &[u8], len: usize) -> usize {
     let k = lines::within(len, room);
     let m = shown(page, n, word, &room[..k]);
-    kept(page, m, &room[k..])
+    kept(page, m, is_marked(&room[k..]))
 }
 
 fn read_into(page: &mut [u8; 65536], n: usize, src: &[u8], room: &mut [u8]) -> usize {
@@ -76,7 +76,7 @@ fn read_into(page: &mut [u8; 65536], n: usize, src: &[u8], room: &mut [u8]) -> u
         Readout::Table(len) => written(page, n, b"table ", room, len),
         Readout::Refused(r) => {
             let m = lines::refusal(page, n, r);
-            kept(page, m, room)
+            kept(page, m, is_marked(room))
         }
     }
 }
@@ -86,7 +86,7 @@ pub fn read(page: &mut [u8; 65536], n: usize, src: &[u8], room: &mut [u8], most:
     read_into(page, n, src, &mut room[..k])
 }
 
-fn width_of(a: usize) -> u32 {
+pub fn width_of(a: usize) -> u32 {
     if a < 4294967295 {
         return a as u32;
     }
@@ -105,7 +105,7 @@ fn print_into(
         Printed::Text(len) => written(page, n, b"print ", room, len),
         Printed::Refused(r) => {
             let m = lines::refusal(page, n, r);
-            kept(page, m, room)
+            kept(page, m, is_marked(room))
         }
     }
 }

@@ -1,6 +1,6 @@
 //! Refusals: a number and a place, and words for them.
 
-use std::fmt;
+use std::{fmt, io};
 
 use crate::ffi::Words;
 use crate::numbers;
@@ -52,6 +52,13 @@ impl fmt::Display for Error {
 }
 
 impl std::error::Error for Error {}
+
+/// For readers and writers: of the kind `InvalidData`, with the refusal inside.
+impl From<Error> for io::Error {
+    fn from(error: Error) -> io::Error {
+        io::Error::new(io::ErrorKind::InvalidData, error)
+    }
+}
 
 /// A refusal with its source, to be shown; [`Error::within`] makes it.
 #[derive(Clone, Copy, Debug)]

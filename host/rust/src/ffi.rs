@@ -5,6 +5,9 @@ use std::mem::MaybeUninit;
 /// The words of an answer, and of a feeder's state.
 pub type Words = [u64; 8];
 
+/// The words of the state of a print through windows; zeros are the fresh state.
+pub type PrintWords = [u64; 72];
+
 /// Word 0 of an answer: all that the header has, used here or not.
 #[allow(dead_code)]
 pub mod kind {
@@ -30,6 +33,15 @@ unsafe extern "C" {
         len: usize,
         width: u32,
         text: *mut u8,
+        room: usize,
+        answer: *mut Words,
+    );
+    pub fn tulbazhik_fill(
+        table: *const u8,
+        len: usize,
+        width: u32,
+        state: *mut PrintWords,
+        window: *mut u8,
         room: usize,
         answer: *mut Words,
     );

@@ -1,7 +1,7 @@
 //! Lexes, reads and prints ISLE rule files by code that is proved to meet its contracts on every input.
 //!
 //! A source at hand is lexed by [`tokens`] or [`next_token`]; one that comes in pieces by a [`Feeder`].
-//! [`read`] makes a table of a source's trees, and [`print`] lays a table out at a width.
+//! [`read`] makes a table of a source's trees, and [`print`] lays a table out at a width; [`Printing`] does so window by window.
 //! A refusal is an [`Error`]: a number (by name in [`numbers`]), a place, and words with line, column and a caret.
 //!
 //! ```
@@ -21,9 +21,11 @@ mod lex;
 pub mod numbers;
 mod tables;
 mod token;
+mod windows;
 
 pub use error::{Error, Within};
 pub use feed::{FeedError, Feeder, Parts, TokensFrom};
 pub use lex::{Tokens, next_token, tokens};
 pub use tables::{print, print_into, read, read_into};
 pub use token::{Answer, Kind, Token};
+pub use windows::Printing;

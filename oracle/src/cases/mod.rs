@@ -8,6 +8,7 @@ mod pieces;
 mod source_trees;
 mod tables;
 mod text;
+mod windows;
 
 use std::collections::BTreeMap;
 
@@ -157,7 +158,7 @@ impl Cases {
     fn limit_frame(&self, op: u8, turn: u64, rng: &mut Rng) -> Frame {
         if takes_table(op) {
             let (table, width) = tables::large(rng);
-            return of_table(op, table, width, rng);
+            return of_table(op, table, width, self.sample, rng);
         }
         let (source, end) = match turn % 32 {
             17 if !self.real.is_empty() => (self.real.clone(), self.real.len()),
@@ -193,18 +194,20 @@ impl Cases {
             "broken" => (tables::broken(rng), width(30, rng)),
             _ => tables::random(self.sample, rng),
         };
-        of_table(op, table, width, rng)
+        of_table(op, table, width, self.sample, rng)
     }
 }
 
 /// The ops that are given a table and not a source.
 fn takes_table(op: u8) -> bool {
-    matches!(op, b'P' | b'K')
+    matches!(op, b'P' | b'K' | b'V' | b'v')
 }
 
-fn of_table(op: u8, table: Vec<u8>, width: usize, rng: &mut Rng) -> Frame {
-    if op == b'K' {
-        return Frame { op, a: rng.below(2) as u32, b: 0, bytes: table };
+fn of_table(op: u8, table: Vec<u8>, width: usize, small: bool, rng: &mut Rng) -> Frame {
+    match op {
+        b'K' => return Frame { op, a: rng.below(2) as u32, b: 0, bytes: table },
+        b'V' | b'v' => return windows::frame(op, table, width, small, rng),
+        _ => {}
     }
     let need = match CrateSide.check(&table, true) {
         Ok(trees) => layout::page(&trees, width).out.len(),

@@ -135,9 +135,10 @@ pub fn random(small: bool, rng: &mut Rng) -> (Vec<u8>, usize) {
     (table_of(&trees), width)
 }
 
-/// A table with many records: a long list, far to the right at times, or many trees.
+/// A table with many records: a long list of atoms or of lists, far to the right at times, or many trees.
 pub fn large(rng: &mut Rng) -> (Vec<u8>, usize) {
-    let mut items = (0..rng.below(20_000)).map(|_| tree(0, rng)).collect::<Vec<_>>();
+    let (most, depth) = rng.pick(&[(20_000, 0), (8_000, 1)]);
+    let mut items = (0..rng.below(most)).map(|_| tree(depth, rng)).collect::<Vec<_>>();
     if rng.one_in(3) {
         return (table_of(&items), super::width(60, rng));
     }
@@ -150,9 +151,14 @@ pub fn large(rng: &mut Rng) -> (Vec<u8>, usize) {
 /// A table that mostly breaks a rule: a byte changed, cut off or put in, or a bad record among good ones.
 pub fn broken(rng: &mut Rng) -> Vec<u8> {
     let mut table = table_of(&(0..1 + rng.below(3)).map(|_| tree(2, rng)).collect::<Vec<_>>());
+    damage(&mut table, rng);
+    table
+}
+
+pub fn damage(table: &mut Vec<u8>, rng: &mut Rng) {
     match rng.below(6) {
         0 => table.truncate(rng.below(table.len() + 1)),
-        1 | 2 => {
+        1 | 2 if !table.is_empty() => {
             for _ in 0..1 + rng.below(2) {
                 let at = rng.below(table.len());
                 table[at] =
@@ -168,7 +174,6 @@ pub fn broken(rng: &mut Rng) -> Vec<u8> {
             if rng.one_in(2) { table.extend(more) } else { table.splice(0..0, more).for_each(drop) }
         }
     }
-    table
 }
 
 fn bad_record(table: &mut Vec<u8>, rng: &mut Rng) {

@@ -1,0 +1,3 @@
+-- The laws behind the words of a windowed print.
+pub mod Packed
+pub mod Twins
