@@ -6,31 +6,29 @@ use mathlib.Core.List.{List, [], _∷_, _++_}
 use Prim.Native.Nat.{ℕ, zero, suc, _+_, _-_, _≤_, _<_}
 use native.Mathlib.Omega.{arith}
 use lib.Dec.{leb, eqb, ltb}
-use lib.ListN.{length, length-set, getD, set, take, drop, replicate, getD-replicate}
-use lib.Seq.{length-sets, getD-set-same, getD-set-other, getD-drop}
+use lib.ListN.{length, length-set, getD, set, take, replicate, getD-replicate}
+use lib.Seq.{length-sets, getD-set-same, getD-set-other}
 use borrow.Author.Tests.{eqb-true, eqb-false, ltb-true}
 use Rattle.refusals.specs.Result.{Result, ok, refused}
 use Rattle.refusals.specs.Numbers.{depthLimit}
 use Rattle.lists.specs.Over.{over}
 use Rattle.lists.proofs.Choice.{pick}
-use Rattle.wide.specs.Bytes.{Bytes, number, numberAt}
-use Rattle.records.specs.declared.Head.{Head}
-use Rattle.records.specs.declared.Head.the-variants.{Cut, Is}
-use Rattle.records.specs.Records.{headLen, headAt}
-use Rattle.table.specs.Kinds.{symbolKind, integerKind, bindingKind, listKind, integerLen, listLen}
+use Rattle.wide.specs.Bytes.{Bytes}
 use Rattle.table.specs.declared.Record.{Record}
 use Rattle.table.specs.declared.Record.the-variants.{Symbol, Integer, Binding, List as ListOf, Bad}
-use Rattle.table.specs.Records.{kindOf, recordOf, recordAt}
+use Rattle.table.specs.Records.{recordAt}
 use Rattle.table.specs.Trees.{Trees}
 use Rattle.table.specs.Decoding.{Found, found, tableOf}
 use Rattle.printer.specs.Layout.{Wrapping}
 use Rattle.printer.specs.Fitting.{fitsAt}
+use Rattle.printer.proofs.CheckedRecords.{list-small}
 use Rattle.windows.specs.declared.Phase.{Phase}
 use Rattle.windows.specs.declared.Phase.the-variants.{Fresh, Node, Sign, Gap, Back, Close, Line, Between, Done}
 use Rattle.windows.specs.declared.Cursor.{Cursor}
 use Rattle.windows.specs.declared.State.{State}
 use Rattle.windows.specs.Machine.{state, isDone, isFresh, leaves, singleMargin, modeOf, past, flat, marginFor, heldDue, heldMargin, listNext, nodeNext, gapFor, phaseNext, nextOf, freshState, startCursor}
 use Rattle.windows.specs.Filling.{Ran, rest, turn, run, part, Call, goOn, first, fillOf, handed, givenBy, Answer, calls}
+use Rattle.windows.proofs.Steps.{cursor}
 use Rattle.tulbazhik_windows.specs.States.{cursorWords, stored, stateWords, partWords, phaseIn, cursorIn, unpackOf, callsThrough, ThroughWords}
 use Rattle.tulbazhik_windows.proofs.Packed.{Fits, back, sets-below}
 
@@ -60,14 +58,6 @@ low-set k k′ i x h l = (length-set k i x ∙ l .0, length-set k′ i x ∙ l .
 
 -- ---- a list's items are 32 bits
 
-four : (l : List ℕ) → ((i : ℕ) → getD l i 0 < 256) → number (take 4 l) < 4294967296
-unfolding number
-four [] h = omega arith
-four (a ∷ []) h = omega (arith, h 0)
-four (a ∷ b ∷ []) h = omega (arith, h 0, h 1)
-four (a ∷ b ∷ c ∷ []) h = omega (arith, h 0, h 1, h 2)
-four (a ∷ b ∷ c ∷ d ∷ l) h = omega (arith, h 0, h 1, h 2, h 3)
-
 abbrev Small : Record → Type 0
 Small (Symbol n) = Unit {0}
 Small Integer = Unit {0}
@@ -75,23 +65,15 @@ Small (Binding n) = Unit {0}
 Small (ListOf n) = n < 4294967296
 Small (Bad n) = Unit {0}
 
-kind-small : (kind len n : ℕ) → n < 4294967296 → Small (kindOf kind len n)
-kind-small kind len n h =
-    pick Small (eqb kind symbolKind) (λ _. tt) (λ _.
-    pick Small (eqb kind integerKind) (λ _. pick Small (eqb len integerLen) (λ _. tt) (λ _. tt)) (λ _.
-    pick Small (eqb kind bindingKind) (λ _. tt) (λ _.
-    pick Small (eqb kind listKind) (λ _. pick Small (eqb len listLen) (λ _. h) (λ _. tt)) (λ _. tt))))
-
-head-small : (x : Head) (n : ℕ) → n < 4294967296 → Small (recordOf x n)
-head-small Cut n h = tt
-head-small (Is kind len) n h = kind-small kind len n h
-
 record-small : (t : List ℕ) → Bytes t → (p : ℕ) → Small (recordAt t p)
-unfolding recordAt
-record-small t h p =
-    pick Small (ltb p (length t))
-    (λ _. head-small (headAt t p) (numberAt 4 t (p + headLen)) (four (drop (p + headLen) t) (λ i. subst (λ (x : ℕ). x < 256) (sym (getD-drop (p + headLen) t i 0)) (h (p + headLen + i)))))
-    (λ _. tt)
+record-small t h p = by (recordAt t p) refl
+  where
+    by : (x : Record) → recordAt t p ≡ x → Small x
+    by (Symbol n) e = tt
+    by Integer e = tt
+    by (Binding n) e = tt
+    by (ListOf n) e = list-small t p n (recordAt t p) h refl e
+    by (Bad n) e = tt
 
 -- ---- the machine
 
@@ -118,22 +100,9 @@ module _ (t : List ℕ) (w : ℕ) (bytes : Bytes t) where
       (λ _. (g .0, (omega (arith, g .1 .0), g .1 .1, g .1 .2)))
       (λ e. let n = eqb-false (c .margin) singleMargin e in (g .0, (omega (arith, g .1 .0), g .1 .1, omega (arith, g .1 .1, n))))
 
-  -- with a word of the stack at hand
-  abbrev poppedBy : Cursor → ℕ → Cursor
-  poppedBy c x = record {
-    phase = Close;
-    at = c .at;
-    depth = c .depth - 1;
-    due = heldDue x;
-    margin = heldMargin x;
-    left = c .left;
-    indent = c .indent;
-    given = 0;
-  }
-
   close-twins : (c : Cursor) (k k′ : List ℕ) → Low k k′ → Good c → Twins (phaseNext t w (state c k) Close) (phaseNext t w (state c k′) Close)
   close-twins c k k′ l g =
-      (ap (λ (x : ℕ). past (poppedBy c x) (c .at) (c .left - 1)) (sym (l .2 (c .depth - 1) (omega (arith, g .0)))), l, (omega (arith, g .0), (omega arith, omega arith, g .1 .2)))
+      (ap (λ (x : ℕ). past (cursor Close (c .at) (c .depth - 1) (heldDue x) (heldMargin x) (c .left) (c .indent)) (c .at) (c .left - 1)) (sym (l .2 (c .depth - 1) (omega (arith, g .0)))), l, (omega (arith, g .0), (omega arith, omega arith, g .1 .2)))
 
   phase-twins : (c : Cursor) (k k′ : List ℕ) (f : Phase) → Low k k′ → Good c → Twins (phaseNext t w (state c k) f) (phaseNext t w (state c k′) f)
   phase-twins c k k′ Fresh l g = (refl, l, g)

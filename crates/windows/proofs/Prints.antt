@@ -27,7 +27,8 @@ use Rattle.printer.specs.Layout.{Wrapping, Wrap, SingleLine, bytes, column, bre
 use Rattle.printer.specs.Fitting.{fitsAt}
 use Rattle.printer.proofs.FitWalk.{fits-stands}
 use Rattle.printer.proofs.LayoutBounds.{inner-le}
-use Rattle.windows.specs.Machine.{Phase, Node, Sign, Gap, Back, Close, Line, Between, Done, Cursor, State, state, isDone, isFresh, leaves, broken, singleMargin, modeOf, nodePut, putOf, closePhase, past, flat, held, heldDue, heldMargin, opened, nodeNext, started, nextOf}
+use Rattle.windows.specs.Machine.{Phase, Node, Sign, Gap, Back, Close, Line, Between, Done, State, state, isDone, isFresh, leaves, broken, singleMargin, modeOf, nodePut, putOf, closePhase, past, flat, held, heldDue, heldMargin, opened, nodeNext, started, nextOf}
+use Rattle.windows.proofs.Steps.{cursor as cur}
 
 -- from s the machine puts o, byte after byte, and is then done; of the next put nothing is given yet
 pub data Prints (t : List ℕ) (w : ℕ) : State → List ℕ → Type 0 where
@@ -35,10 +36,7 @@ pub data Prints (t : List ℕ) (w : ℕ) : State → List ℕ → Type 0 where
   puts : (s : State) (o r : List ℕ) → isDone (s .cursor .phase) ≡ false → (isFresh (s .cursor .phase) ≡ false) × (s .cursor .given ≡ 0) → 0 < length (putOf t (s .cursor))
       → o ≡ putOf t (s .cursor) ++ r → Prints t w (nextOf t w s) r → Prints t w s o
 
--- a cursor of whose next put nothing is given, and the state with a stack
-abbrev pub cur : Phase → ℕ → ℕ → ℕ → ℕ → ℕ → ℕ → Cursor
-cur f p k d g l i = record { phase = f; at = p; depth = k; due = d; margin = g; left = l; indent = i; given = 0 }
-
+-- a state of whose next put nothing is given
 abbrev pub st : Phase → ℕ → ℕ → ℕ → ℕ → ℕ → ℕ → List ℕ → State
 st f p k d g l i z = state (cur f p k d g l i) z
 
