@@ -62,6 +62,16 @@ pub fn nested(lists: usize, bytes: usize) -> String {
     text + &")".repeat(lists)
 }
 
+/// The width at which [`worst`] is looked at most.
+pub const WORST_WIDTH: u32 = 2126;
+
+/// Lists that never fit and are looked at as far as can be: 64, one in the other, and in the innermost 1,000 symbols, all of one
+/// byte but the last, which has 64. List j stands at column j - 1, reaches to 2127 - j without the last symbol and to 2191 - j with
+/// it; so at width 2126 each has room for all but the last symbol, which settles its test, and each looks at all that it has.
+pub fn worst() -> String {
+    ["(".repeat(64), "a ".repeat(999), "w".repeat(64), ")".repeat(64)].concat()
+}
+
 fn declaration(text: &mut String, rng: &mut Rng) {
     text.push_str(rng.pick(&["(decl ", "(decl pure partial ", "(extern constructor "]));
     text.push_str(rng.pick(WORDS));

@@ -10,7 +10,8 @@ const PART: usize = 65_536;
 const SMALL: usize = 24_576;
 
 /// Writes the input, its part, and the part as often as it goes into the limit, so that growth compares like with like; and a
-/// list and nested lists, each of both lengths. The input is a file's, or generated where there is no file's name.
+/// list and nested lists, each of both lengths, and those that the fits test looks at most. The input is a file's, or generated
+/// where there is no file's name.
 pub fn write(from: &str, folder: &str) -> Result<(), String> {
     let text = match from {
         "" => generate::text(LIMIT),
@@ -21,6 +22,7 @@ pub fn write(from: &str, folder: &str) -> Result<(), String> {
     let (whole, small) = (front(&text, LIMIT)?, front(&text, SMALL)?);
     let [list, list_part] = [LIMIT, PART].map(|bytes| generate::nested(1, bytes));
     let [nest, nest_part] = [LIMIT, PART].map(|bytes| generate::nested(60, bytes));
+    let worst = generate::worst();
     let texts = [
         ("whole", whole),
         ("part", part),
@@ -30,6 +32,7 @@ pub fn write(from: &str, folder: &str) -> Result<(), String> {
         ("list_part", &list_part),
         ("nest", &nest),
         ("nest_part", &nest_part),
+        ("worst", &worst),
     ];
     for (name, text) in texts {
         std::fs::write(format!("{folder}/{name}"), text).map_err(|error| format!("{folder}: {error}"))?;

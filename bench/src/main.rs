@@ -53,6 +53,7 @@ fn main() -> ExitCode {
         ["one", name, file] => measured::one(name, file, true),
         ["idle", name, file] => measured::one(name, file, false),
         ["time", file] => measured::time(file),
+        ["looked", file, ref widths @ ..] => measured::looked(file, widths),
         ["program"] => program(),
         ["table", folder] => report::table(folder),
         _ => Err(USAGE.to_string()),

@@ -5,6 +5,7 @@ use std::panic::{AssertUnwindSafe, catch_unwind};
 use std::time::{Duration, Instant};
 
 use crate::ffi::{self, kind};
+use crate::generate::WORST_WIDTH;
 use crate::input::{self, Tree};
 use crate::lexer::Lexer;
 use crate::printer::{SExpr, ToSExpr, print_node};
@@ -23,9 +24,11 @@ struct Print {
     trees: Vec<SExpr>,
     table: Vec<u8>,
     left_out: usize,
+    /// The records that the fits test looks at.
+    looked: u64,
 }
 
-pub const WIDTHS: [u32; 4] = [0, 40, 100, u32::MAX];
+pub const WIDTHS: [u32; 5] = [0, 40, 100, u32::MAX, WORST_WIDTH];
 
 impl Job {
     pub fn new(file: &str, only: Option<&str>) -> Result<Job, String> {
@@ -38,17 +41,18 @@ impl Job {
         }
         for width in WIDTHS {
             if wants(&format!("print_{width}_")) {
-                let print = Print::new(&job.text, width)?;
+                let mut print = Print::new(&job.text, width)?;
                 let text = tulbazhik::print(&print.table, width).map_err(|error| error.to_string())?;
                 let mut same = Vec::new();
                 print_by_crate(&print.trees, width, &mut same);
-                if text != same {
+                if text.bytes != same {
                     return Err(format!("the two sides print other bytes at width {width}"));
                 }
                 if !same_by_windows(&print.table, width, &text) {
-                    return Err(format!("the windows joined are other bytes at width {width}"));
+                    return Err(format!("the windows joined are another print at width {width}"));
                 }
-                room = room.max(text.len());
+                room = room.max(text.bytes.len());
+                print.looked = text.looked;
                 job.prints.push(print);
             }
         }
@@ -86,16 +90,29 @@ impl Print {
         }
         std::panic::set_hook(quiet);
         let table = tulbazhik::read(source.as_bytes()).map_err(|error| error.to_string())?;
-        Ok(Print { width, trees, table, left_out })
+        Ok(Print { width, trees, table, left_out, looked: 0 })
+    }
+
+    /// How many records the table has: each begins with its length.
+    fn records(&self) -> usize {
+        let (mut rest, mut count) = (&self.table[..], 0);
+        while let Some((length, _)) = rest.split_first_chunk() {
+            rest = &rest[u32::from_le_bytes(*length) as usize..];
+            count += 1;
+        }
+        count
     }
 }
 
-fn same_by_windows(table: &[u8], width: u32, text: &[u8]) -> bool {
-    let (mut printing, mut window, mut rest) = (tulbazhik::Printing::new(table, width), [0; 512], text);
+fn same_by_windows(table: &[u8], width: u32, text: &tulbazhik::Text) -> bool {
+    let (mut printing, mut window) = (tulbazhik::Printing::new(table, width), [0; 512]);
+    let mut rest = &text.bytes[..];
     loop {
         match printing.fill(&mut window) {
             Ok(Some(n)) if rest.starts_with(&window[..n]) => rest = &rest[n..],
-            answer => return answer == Ok(None) && rest.is_empty(),
+            answer => {
+                return answer == Ok(None) && rest.is_empty() && printing.looked() == Some(text.looked);
+            }
         }
     }
 }
@@ -180,7 +197,7 @@ fn read(job: &mut Job) -> usize {
 
 fn print(job: &mut Job, nth: usize) -> usize {
     let print = job.prints.iter().find(|print| print.width == WIDTHS[nth]).expect("it was asked for");
-    tulbazhik::print_into(&print.table, print.width, &mut job.room).expect("the room is enough")
+    tulbazhik::print_into(&print.table, print.width, &mut job.room).expect("the room is enough").len
 }
 
 /// The same text through windows of so many bytes, as a host in C gets it: each window is written over the one before.
@@ -231,6 +248,7 @@ measured! {
     bench_print_40_ours = |job| print(job, 1);
     bench_print_100_ours = |job| print(job, 2);
     bench_print_4294967295_ours = |job| print(job, 3);
+    bench_print_2126_ours = |job| print(job, 4);
     bench_print_100_windows_1_ours = |job| windows(job, 1);
     bench_print_100_windows_64_ours = |job| windows(job, 64);
     bench_print_100_windows_512_ours = |job| windows(job, 512);
@@ -262,6 +280,16 @@ pub fn time(file: &str) -> Result<(), String> {
             (best, spent) = (best.min(took), spent + took);
         }
         println!("{name} {}", best.as_nanos());
+    }
+    Ok(())
+}
+
+/// A line for each width: the records that the fits test looks at, and those in the table.
+pub fn looked(file: &str, widths: &[&str]) -> Result<(), String> {
+    for width in widths {
+        for print in Job::new(file, Some(&format!("print_{width}_")))?.prints {
+            println!("{width} {} {}", print.looked, print.records());
+        }
     }
     Ok(())
 }

@@ -2,6 +2,8 @@
 
 use std::collections::HashMap;
 
+use crate::generate::WORST_WIDTH;
+
 /// Lines of a name and numbers, as the script writes them.
 type Lines = HashMap<String, Vec<f64>>;
 
@@ -54,6 +56,43 @@ const WINDOWS: &[Windows] = &[
     windows("one list, windows of 512", "bench_print_100_windows_512_ours", ["list", "list_part", "list"]),
     windows("60 lists, windows of 512", "bench_print_100_windows_512_ours", ["nest", "nest_part", "nest"]),
 ];
+
+/// A print whose count is shown: its title, its source, and its width.
+const LOOKED: &[(&str, &str, u32)] = &[
+    ("the input, width 0", "whole", 0),
+    ("the input, width 40", "whole", 40),
+    ("the input, width 100", "whole", 100),
+    ("the input, width 4294967295", "whole", u32::MAX),
+    ("one list, width 100", "list", 100),
+    ("60 lists, width 100", "nest", 100),
+    ("64 lists, width 2126", "worst", WORST_WIDTH),
+];
+
+/// The records that the fits test looks at, beside those in the table and the most that there can be.
+fn by_records(folder: &str) -> Result<(), String> {
+    println!(
+        "\nrecords that the fits test looks at in a print, beside the records in the table and 64 times as many"
+    );
+    println!(
+        "64 lists: one in the other around 1,000 symbols, of which the last is too long for each list at this width\n"
+    );
+    println!("{:<27} {:>9} {:>9} {:>6} {:>9}", "", "looked", "records", "ratio", "at most");
+    for (title, name, width) in LOOKED {
+        let lines = lines(&format!("{folder}/{name}.looked"))?;
+        let Some([looked, records]) = lines.get(&width.to_string()).map(Vec::as_slice) else {
+            return Err(format!("{title} was not counted"));
+        };
+        println!("{title:<27} {looked:>9} {records:>9} {:>6.2} {:>9}", looked / records, 64.0 * records);
+    }
+    // at width 0 the text is the same, and one record settles that nothing fits
+    let worst = lines(&format!("{folder}/worst.counts"))?;
+    let [most, least] = ["bench_print_2126_ours", "bench_print_0_ours"].map(|name| per_byte(&worst, name));
+    println!(
+        "64 lists: {:.1} instructions per output byte, and {:.1} at width 0, where the text is the same and one record is looked at",
+        most?, least?
+    );
+    Ok(())
+}
 
 /// Each beside the ordinary print of the same text.
 fn by_windows(folder: &str) -> Result<(), String> {
@@ -124,7 +163,8 @@ pub fn table(folder: &str) -> Result<(), String> {
             left_out(width)
         );
     }
-    by_windows(folder)
+    by_windows(folder)?;
+    by_records(folder)
 }
 
 /// Instructions for each of the bytes that the function named.

@@ -17,7 +17,7 @@
 
 /* MAJOR grows when something changes that a caller relies on, MINOR when something is added. */
 #define TULBAZHIK_VERSION_MAJOR 2
-#define TULBAZHIK_VERSION_MINOR 1
+#define TULBAZHIK_VERSION_MINOR 2
 
 /* Bytes of a source; bytes of a table, enough for the table of any source; lists and bindings open at once. */
 #define TULBAZHIK_SOURCE_LIMIT 1048576
@@ -25,7 +25,7 @@
 #define TULBAZHIK_DEPTH_LIMIT 64
 
 /* Bytes of stack that no call exceeds, at 64 levels of nesting. It is measured, not proved: host/check paints a stack,
-   makes the calls, looks how far down it was touched, and says how much that was: 18,920 bytes when this was written. */
+   makes the calls, looks how far down it was touched, and says how much that was: 21,000 bytes when this was written. */
 #define TULBAZHIK_STACK 65536
 
 #if defined(__GNUC__)
@@ -51,12 +51,13 @@ typedef struct tulbazhik_answer {
     };
     uint64_t high, low; /* an integer in two's complement, its high and its low 64 bits */
     uint64_t used;      /* bytes consumed of a piece */
-    uint64_t spare[2];  /* 0 */
+    uint64_t looked;    /* records that the fits test of a print looked at */
+    uint64_t spare;     /* 0 */
 } tulbazhik_answer;
 
 /* The kinds of an answer, and the fields that each has. */
 enum {
-    TULBAZHIK_END = 0,     /* the source's end; from tulbazhik_fill the text's */
+    TULBAZHIK_END = 0,     /* the source's end; from tulbazhik_fill the text's, with looked */
     TULBAZHIK_LPAREN = 1,  /* start, length; from a feed also used, as with every token, refusal and MORE */
     TULBAZHIK_RPAREN = 2,  /* start, length */
     TULBAZHIK_AT = 3,      /* start, length */
@@ -64,7 +65,8 @@ enum {
     TULBAZHIK_INT = 5,     /* start, length (of the whole spelling), high, low */
     TULBAZHIK_REFUSED = 6, /* place, number */
     TULBAZHIK_MORE = 7,    /* the whole piece was consumed and no token is ready */
-    TULBAZHIK_DONE = 8     /* length: a table, a text or the next part of one was written, so many bytes */
+    TULBAZHIK_DONE = 8     /* length: a table, a text or the next part of one was written, so many bytes; from
+                              tulbazhik_print also looked */
 };
 
 /* The numbers of refusals, and the place that each names. No refusal changes a byte of a room. */
@@ -117,7 +119,9 @@ typedef struct tulbazhik_state {
     uint64_t word[8];
 } tulbazhik_state;
 
-/* What a print through windows keeps between two calls: plain data, which may be copied and stored. Zeros are the fresh state. */
+/* What a print through windows keeps between two calls: plain data, which may be copied and stored. Zeros are the fresh state.
+   What the words say is the library's own, and may be another thing in another version: a print goes on in the one that it
+   began in. */
 typedef struct tulbazhik_print_state {
     uint64_t word[72];
 } tulbazhik_print_state;
@@ -139,14 +143,19 @@ void tulbazhik_close(tulbazhik_state *state, tulbazhik_answer *answer) TULBAZHIK
 void tulbazhik_read(const uint8_t *source, size_t length, uint8_t *table, size_t room, tulbazhik_answer *answer)
     TULBAZHIK_NONNULL;
 
-/* A table laid out at a width as a text in `text`: DONE, or REFUSED. Bytes of the room after the text stay as they were. */
+/* A table laid out at a width as a text in `text`: DONE, or REFUSED. Bytes of the room after the text stay as they were.
+   With DONE, `looked` is how many records the fits test looked at. A list is tested unless it is inside one that fitted; a test
+   looks at the list's records in preorder, up to and including the one that settles that it does not fit, or at all of its
+   own, and at none if the column is past the width. The number is at most 64 times the records in the table; where it is many
+   times as many, lists far down are looked at again for each list around them that does not fit. */
 void tulbazhik_print(const uint8_t *table, size_t length, uint32_t width, uint8_t *text, size_t room,
                      tulbazhik_answer *answer) TULBAZHIK_NONNULL;
 
 /* The text that tulbazhik_print would write, through a window of any length: DONE with as many of the next bytes as the window
    holds or as are left, whichever is fewer; END at the first call with none left and at each later one; or REFUSED. While bytes
    are left, a window of length 0 gets DONE with 0 bytes and moves nothing. The windows joined, whatever their lengths, are the
-   text. Bytes of the window after those written stay as they were.
+   text. Bytes of the window after those written stay as they were. With END, then and at each later call, `looked` is the number
+   that tulbazhik_print would give.
    The first call, with the fresh state, refuses what tulbazhik_print does but for want of room (18), and no later one refuses;
    a refused call changes neither the state nor the window. The table and the width stay the same from the first call to the
    last. If they do not, or if no earlier call gave the state, then what is answered and written is left open; but the call

@@ -1,13 +1,14 @@
 //! The answers of the proved library to a frame, in the probe's lines, by each way there is to ask it.
 
 use std::ffi::{c_char, c_int};
-use std::io::{self, ErrorKind, Read, Write};
+use std::io::{self, ErrorKind, Read};
 
 use tulbazhik::FeedError;
 
+use crate::answer;
 use crate::drive::{self, Feeder};
 use crate::ffi::{self, Words};
-use crate::frame::{Frame, OUTPUT_ROOM, TABLE_ROOM};
+use crate::frame::{Frame, OUTPUT_ROOM, TABLE_ROOM, after_layout};
 use crate::guarded::{Bytes, Lent};
 use crate::token::{Answer, Kind, Refusal, Token};
 use crate::windowed;
@@ -19,6 +20,9 @@ unsafe extern "C" {
 }
 
 type Way = (&'static str, Vec<u8>);
+
+/// A text and its count, or a refusal.
+pub type Text = Result<(Vec<u8>, u64), Refusal>;
 
 pub fn answers(frame: &Frame) -> Vec<Way> {
     let (source, a, b) = (&frame.bytes[..], frame.a as usize, frame.b as usize);
@@ -43,20 +47,8 @@ pub fn answers(frame: &Frame) -> Vec<Way> {
         b'R' => {
             vec![("C", read_in_c(source, a.min(TABLE_ROOM))), ("wrapper", read(source, a.min(TABLE_ROOM)))]
         }
-        b'P' => {
-            let room = b.min(OUTPUT_ROOM);
-            let mut ways =
-                vec![("C", print_in_c(source, frame.a, room)), ("wrapper", print(source, frame.a, room))];
-            // a window has no want of room; where the print has, it is told here
-            for (way, text) in windowed::texts(source, frame.a) {
-                let text = text.and_then(|text| match text.len() {
-                    len if len > room => Err(Refusal { number: 18, place: len }),
-                    _ => Ok(text),
-                });
-                ways.push((way, shown("print", text.as_deref().map_err(|refusal| *refusal), Some(true))));
-            }
-            ways
-        }
+        b'P' => prints(source, frame.a, b.min(OUTPUT_ROOM), false),
+        b'Q' => prints(after_layout(source), frame.a, b.min(OUTPUT_ROOM), true),
         b'W' => {
             let mut ways = vec![("wrapper", rewritten(source, frame.a))];
             if frame.a == 100 {
@@ -264,16 +256,45 @@ fn from_reader(source: &[u8], first: usize, later: usize) -> Vec<u8> {
 fn shown(word: &str, result: Result<&[u8], Refusal>, kept: Option<bool>) -> Vec<u8> {
     let mut out = Vec::new();
     match result {
-        Ok(bytes) => {
-            writeln!(out, "{word} {}", bytes.len()).expect("a vector takes every byte");
-            bytes.iter().for_each(|byte| write!(out, "{byte:02x}").expect("a vector takes every byte"));
-            out.push(b'\n');
-        }
+        Ok(bytes) => answer::shown(word, bytes, &mut out),
         Err(refusal) => refusal.line(&mut out),
     }
     if let Some(kept) = kept {
-        out.extend(if kept { &b"kept\n"[..] } else { b"touched\n" });
+        kept_line(kept, &mut out);
     }
+    out
+}
+
+fn kept_line(kept: bool, out: &mut Vec<u8>) {
+    out.extend(if kept { &b"kept\n"[..] } else { b"touched\n" });
+}
+
+/// The lines of P or, with the count, of Q, by each way to print.
+fn prints(table: &[u8], width: u32, room: usize, counted: bool) -> Vec<Way> {
+    let mut ways = vec![("C", print_in_c(table, width, room)), ("wrapper", print(table, width, room))];
+    // a window has no want of room; where the print has, it is told here
+    ways.extend(windowed::texts(table, width).into_iter().map(|(way, text)| {
+        let text = text.and_then(|(text, looked)| match text.len() {
+            len if len > room => Err(Refusal { number: 18, place: len }),
+            _ => Ok((text, looked)),
+        });
+        (way, (text, true))
+    }));
+    ways.into_iter().map(|(way, (text, kept))| (way, print_lines(text, kept, counted))).collect()
+}
+
+fn print_lines(text: Text, kept: bool, counted: bool) -> Vec<u8> {
+    let mut out = Vec::new();
+    match text {
+        Ok((bytes, looked)) => {
+            answer::shown("print", &bytes, &mut out);
+            if counted {
+                answer::looked(looked as usize, &mut out);
+            }
+        }
+        Err(refusal) => refusal.line(&mut out),
+    }
+    kept_line(kept, &mut out);
     out
 }
 
@@ -282,25 +303,30 @@ fn read_in_c(source: &[u8], room: usize) -> Vec<u8> {
     // SAFETY: three pieces of memory of this function's own, of the sizes that are said.
     unsafe { ffi::tulbazhik_read(lent.lent(), lent.len(), table.lent(), table.len(), words.lent()) };
     assert!(lent.kept(0), "the source was changed");
-    by_words("table", words.words(), &table)
+    let (read, kept) = by_words(words.words(), &table);
+    let read = read.map(|(table, looked)| {
+        assert_eq!(looked, 0, "a word that the header says is 0");
+        table
+    });
+    shown("table", read.as_deref().map_err(|refusal| *refusal), Some(kept))
 }
 
-fn print_in_c(table: &[u8], width: u32, room: usize) -> Vec<u8> {
+fn print_in_c(table: &[u8], width: u32, room: usize) -> (Text, bool) {
     let (mut lent, mut text, mut words) = (Bytes::of(table), Bytes::room(room), Lent::unwritten());
     // SAFETY: as in `read_in_c`.
     unsafe { ffi::tulbazhik_print(lent.lent(), lent.len(), width, text.lent(), text.len(), words.lent()) };
     assert!(lent.kept(0), "the table was changed");
-    by_words("print", words.words(), &text)
+    by_words(words.words(), &text)
 }
 
-fn by_words(word: &str, answer: Words, room: &Bytes) -> Vec<u8> {
+/// What was written into a room, with the word that a print has its count in, and whether all else was kept.
+fn by_words(answer: Words, room: &Bytes) -> (Text, bool) {
     match answer {
-        [8, 0, len, 0, 0, 0, 0, 0] => {
-            shown(word, Ok(&room.bytes()[..len as usize]), Some(room.kept(len as usize)))
+        [8, 0, len, 0, 0, 0, looked, 0] => {
+            (Ok((room.bytes()[..len as usize].to_vec(), looked)), room.kept(len as usize))
         }
         [6, place, number, 0, 0, 0, 0, 0] => {
-            let refusal = Refusal { number: number as u32, place: place as usize };
-            shown(word, Err(refusal), Some(room.kept(0)))
+            (Err(Refusal { number: number as u32, place: place as usize }), room.kept(0))
         }
         words => panic!("no answer has the words {words:?}"),
     }
@@ -310,22 +336,21 @@ fn read(source: &[u8], room: usize) -> Vec<u8> {
     let mut table = Bytes::room(room);
     // SAFETY: the room is this function's own.
     let lent = unsafe { std::slice::from_raw_parts_mut(table.lent(), room) };
-    let result = tulbazhik::read_into(source, lent);
-    by_result("table", result, &table)
+    match tulbazhik::read_into(source, lent) {
+        Ok(len) => shown("table", Ok(&table.bytes()[..len]), Some(table.kept(len))),
+        Err(error) => shown("table", Err(of_error(error)), Some(table.kept(0))),
+    }
 }
 
-fn print(source: &[u8], width: u32, room: usize) -> Vec<u8> {
+fn print(table: &[u8], width: u32, room: usize) -> (Text, bool) {
     let mut text = Bytes::room(room);
     // SAFETY: the room is this function's own.
     let lent = unsafe { std::slice::from_raw_parts_mut(text.lent(), room) };
-    let result = tulbazhik::print_into(source, width, lent);
-    by_result("print", result, &text)
-}
-
-fn by_result(word: &str, result: Result<usize, tulbazhik::Error>, room: &Bytes) -> Vec<u8> {
-    match result {
-        Ok(len) => shown(word, Ok(&room.bytes()[..len]), Some(room.kept(len))),
-        Err(error) => shown(word, Err(of_error(error)), Some(room.kept(0))),
+    match tulbazhik::print_into(table, width, lent) {
+        Ok(tulbazhik::Printed { len, looked }) => {
+            (Ok((text.bytes()[..len].to_vec(), looked)), text.kept(len))
+        }
+        Err(error) => (Err(of_error(error)), text.kept(0)),
     }
 }
 
@@ -333,7 +358,7 @@ fn by_result(word: &str, result: Result<usize, tulbazhik::Error>, room: &Bytes) 
 fn rewritten(source: &[u8], width: u32) -> Vec<u8> {
     let text = tulbazhik::read(source).and_then(|table| tulbazhik::print(&table, width));
     match text {
-        Ok(text) => shown("text", Ok(&text), None),
+        Ok(text) => shown("text", Ok(&text.bytes), None),
         Err(error) => shown("text", Err(of_error(error)), None),
     }
 }

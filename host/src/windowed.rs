@@ -4,8 +4,8 @@ use std::io;
 
 use tulbazhik::Printing;
 
-use crate::answer::shown;
-use crate::doors::of_error;
+use crate::answer::{looked, shown};
+use crate::doors::{Text, of_error};
 use crate::ffi::{self, PrintWords, Words};
 use crate::frame::OUTPUT_ROOM;
 use crate::guarded::{Bytes, Fenced, Lent};
@@ -13,17 +13,15 @@ use crate::rng::Rng;
 use crate::token::Refusal;
 use crate::windows::Calls;
 
-type Text = Result<Vec<u8>, Refusal>;
-
-/// A table's text by each way through windows; their lengths are chosen by the table.
+/// A table's text and count by each way through windows; their lengths are chosen by the table.
 pub fn texts(table: &[u8], width: u32) -> Vec<(&'static str, Text)> {
     let words = [width as u64, table.len() as u64, table.iter().map(|byte| *byte as u64).sum()];
     let rng = || Rng::of(&words);
     vec![
         ("windows in C", in_c(table, width, &Lengths::new(&mut rng()), &mut rng())),
         ("windows by the wrapper", by_wrapper(table, width, &mut rng())),
-        ("io::copy", of_io(|out| io::copy(&mut Printing::new(table, width), out))),
-        ("write_to", of_io(|out| Printing::new(table, width).write_to(out))),
+        ("io::copy", of_io(table, width, |printing, out| io::copy(printing, out))),
+        ("write_to", of_io(table, width, |printing, out| printing.write_to(out))),
     ]
 }
 
@@ -33,9 +31,10 @@ pub fn long() -> Vec<bool> {
     let table = tulbazhik::read(&source.repeat(30)).expect("it reads");
     let (mut same, mut rng) = (Vec::new(), Rng::of(&[]));
     for width in [0, 40, 100] {
-        let text = tulbazhik::print(&table, width).expect("it prints");
+        let tulbazhik::Text { bytes, looked } = tulbazhik::print(&table, width).expect("it prints");
+        let text = Ok((bytes, looked));
         for len in [1, 2, 3, 511, 512, 513, 4096] {
-            same.push(in_c(&table, width, &Lengths::Alike(len), &mut rng) == Ok(text.clone()));
+            same.push(in_c(&table, width, &Lengths::Alike(len), &mut rng) == text);
         }
     }
     same
@@ -70,7 +69,7 @@ fn any_length(rng: &mut Rng) -> usize {
 
 enum Said {
     Bytes(usize),
-    End,
+    End(u64),
     Refused(Refusal),
 }
 
@@ -78,7 +77,7 @@ enum Said {
 fn said(words: Words) -> Said {
     match words {
         [8, 0, len, 0, 0, 0, 0, 0] => Said::Bytes(len as usize),
-        [0, 0, 0, 0, 0, 0, 0, 0] => Said::End,
+        [0, 0, 0, 0, 0, 0, looked, 0] => Said::End(looked),
         [6, place, number, 0, 0, 0, 0, 0] => {
             Said::Refused(Refusal { number: number as u32, place: place as usize })
         }
@@ -108,9 +107,10 @@ fn fill_by_wrapper(table: &[u8], width: u32, state: &mut PrintWords, len: usize)
     *state = printing.state();
     let said = match answer {
         Ok(Some(n)) => Said::Bytes(n),
-        Ok(None) => Said::End,
+        Ok(None) => Said::End(printing.looked().expect("it comes with the end")),
         Err(error) => Said::Refused(of_error(error)),
     };
+    assert!(matches!(said, Said::End(_)) || printing.looked().is_none(), "it comes with the end alone");
     (said, window)
 }
 
@@ -146,8 +146,9 @@ pub fn calls(calls: &Calls, width: u32) -> Vec<(&'static str, Vec<u8>)> {
                 shown("window", &window.bytes()[..n], out);
                 n
             }
-            Said::End => {
+            Said::End(count) => {
                 out.extend(b"end\n");
+                looked(count as usize, out);
                 0
             }
             Said::Refused(refusal) => {
@@ -173,7 +174,7 @@ pub fn insides(calls: &Calls, width: u32, later: u32) -> Vec<(&'static str, Vec<
 /// Each window in memory of its own; what the header says of each call is held to it.
 fn in_c(table: &[u8], width: u32, lengths: &Lengths, rng: &mut Rng) -> Text {
     let (mut state, mut text, mut parts) = ([0; 72], Vec::new(), Vec::new());
-    loop {
+    let looked = loop {
         let (before, len) = (state, lengths.next(rng));
         match fill_in_c(table, width, &mut state, len) {
             (Said::Bytes(n), window) => {
@@ -182,9 +183,9 @@ fn in_c(table: &[u8], width: u32, lengths: &Lengths, rng: &mut Rng) -> Text {
                 text.extend(&window.bytes()[..n]);
                 parts.push((len, n));
             }
-            (Said::End, window) => {
+            (Said::End(looked), window) => {
                 assert!(window.kept(0), "the end writes nothing");
-                break;
+                break looked;
             }
             (Said::Refused(refusal), window) => {
                 assert!(parts.is_empty(), "a later call refuses");
@@ -192,10 +193,11 @@ fn in_c(table: &[u8], width: u32, lengths: &Lengths, rng: &mut Rng) -> Text {
                 return Err(refusal);
             }
         }
-    }
+    };
     for len in [0, 1, 512] {
         let (answer, window) = fill_in_c(table, width, &mut state, len);
-        assert!(matches!(answer, Said::End) && window.kept(0), "the end does not stay");
+        let same = matches!(answer, Said::End(again) if again == looked);
+        assert!(same && window.kept(0), "the end does not stay");
     }
     let mut left = text.len();
     for (len, n) in parts {
@@ -203,7 +205,7 @@ fn in_c(table: &[u8], width: u32, lengths: &Lengths, rng: &mut Rng) -> Text {
         assert!(left > 0, "none was left, and no end was answered");
         left -= n;
     }
-    Ok(text)
+    Ok((text, looked))
 }
 
 fn by_wrapper(table: &[u8], width: u32, rng: &mut Rng) -> Text {
@@ -211,19 +213,23 @@ fn by_wrapper(table: &[u8], width: u32, rng: &mut Rng) -> Text {
     loop {
         match fill_by_wrapper(table, width, &mut state, lengths.next(rng)) {
             (Said::Bytes(n), window) => text.extend(&window.bytes()[..n]),
-            (Said::End, _) => return Ok(text),
+            (Said::End(looked), _) => return Ok((text, looked)),
             (Said::Refused(refusal), _) => return Err(refusal),
         }
     }
 }
 
 /// A text that is written into a vector; a refusal is inside the error.
-fn of_io(write: impl FnOnce(&mut Vec<u8>) -> io::Result<u64>) -> Text {
-    let mut text = Vec::new();
-    match write(&mut text) {
+fn of_io(
+    table: &[u8],
+    width: u32,
+    write: impl FnOnce(&mut Printing, &mut Vec<u8>) -> io::Result<u64>,
+) -> Text {
+    let (mut printing, mut text) = (Printing::new(table, width), Vec::new());
+    match write(&mut printing, &mut text) {
         Ok(len) => {
             assert_eq!(len, text.len() as u64, "the length that it says");
-            Ok(text)
+            Ok((text, printing.looked().expect("it comes with the end")))
         }
         Err(error) => {
             assert!(text.is_empty(), "a refused print writes nothing");
@@ -249,7 +255,7 @@ pub fn astray(tables: [&[u8]; 2], fence: &mut Fenced, rng: &mut Rng) {
         assert!(table.kept(0), "the table was changed");
         let written = match said(words.words()) {
             Said::Bytes(n) => n,
-            Said::End => 0,
+            Said::End(_) => 0,
             Said::Refused(refusal) => {
                 assert!(refusal.number != 18, "a window has no want of room");
                 assert_eq!(state.words(), before, "a refused call gives its state back");

@@ -3,12 +3,18 @@
 use std::io::Write;
 
 use crate::drive::{self, Feeder};
-use crate::frame::{Frame, OUTPUT_ROOM, TABLE_ROOM};
+use crate::frame::{Frame, OUTPUT_ROOM, TABLE_ROOM, after_layout};
 use crate::token::{Answer, LIMIT, Lexed, Refusal, refusal};
 use crate::tree::Tree;
 use crate::windows::{self, Calls};
 
-/// One way to come by document 01's answers. Lengths and rooms are judged here, the same for every side.
+/// A print that succeeds: its text, and the records that the fits test looks at for it.
+pub struct Printed {
+    pub text: Vec<u8>,
+    pub looked: usize,
+}
+
+/// One way to come by the documents' answers. Lengths and rooms are judged here, the same for every side.
 pub trait Side {
     /// Tokens from a place within the source; places count from the source's start.
     fn lex(&self, source: &[u8], from: usize) -> Lexed;
@@ -18,8 +24,8 @@ pub trait Side {
     fn read(&self, source: &[u8]) -> Result<Vec<u8>, Refusal>;
     /// The table's trees, or the first of 15, 20, 21, 13, 16 and, where it is to be printed, 17; or 22.
     fn check(&self, table: &[u8], printing: bool) -> Result<Vec<Tree>, Refusal>;
-    /// All trees' text at this width.
-    fn lay_out(&self, trees: &[Tree], width: usize) -> Vec<u8>;
+    /// All trees' text at this width, with its count.
+    fn lay_out(&self, trees: &[Tree], width: usize) -> Printed;
 }
 
 /// Writes the frame's lines and the closing line with a dot.
@@ -31,11 +37,12 @@ pub fn answer(side: &dyn Side, frame: &Frame, out: &mut Vec<u8>) {
         b'C' => drive::calls(side.feeder(source), source, a, b, false, out),
         b'c' => drive::calls(side.feeder(source), source, a, b, true, out),
         b'R' => result("table", read(side, source, a.min(TABLE_ROOM)), true, out),
-        b'P' => result("print", print(side, source, a, b.min(OUTPUT_ROOM)), true, out),
+        b'P' => result("print", print(side, source, a, b.min(OUTPUT_ROOM)).map(text), true, out),
+        b'Q' => counted(print(side, after_layout(source), a, b.min(OUTPUT_ROOM)), out),
         b'W' => {
             let table = read(side, source, TABLE_ROOM);
-            let text = table.and_then(|table| print(side, &table, a, OUTPUT_ROOM));
-            result("text", text, false, out)
+            let printed = table.and_then(|table| print(side, &table, a, OUTPUT_ROOM));
+            result("text", printed.map(text), false, out)
         }
         b'K' => match side.check(source, a == 1) {
             Ok(_) => out.extend(b"good\n"),
@@ -74,10 +81,15 @@ pub fn read(side: &dyn Side, source: &[u8], room: usize) -> Result<Vec<u8>, Refu
 }
 
 /// Printing with a room: 18 comes last and names the whole size.
-pub fn print(side: &dyn Side, table: &[u8], width: usize, room: usize) -> Result<Vec<u8>, Refusal> {
+pub fn print(side: &dyn Side, table: &[u8], width: usize, room: usize) -> Result<Printed, Refusal> {
     let trees = side.check(table, true)?;
-    let text = side.lay_out(&trees, width);
-    if text.len() > room { Err(refusal(18, text.len())) } else { Ok(text) }
+    let printed = side.lay_out(&trees, width);
+    let len = printed.text.len();
+    if len > room { Err(refusal(18, len)) } else { Ok(printed) }
+}
+
+fn text(printed: Printed) -> Vec<u8> {
+    printed.text
 }
 
 /// How many bytes, and a line of them in hex.
@@ -86,6 +98,23 @@ pub fn shown(word: &str, bytes: &[u8], out: &mut Vec<u8>) {
     let digit = |half: u8| b"0123456789abcdef"[half as usize];
     out.extend(bytes.iter().flat_map(|byte| [digit(byte >> 4), digit(byte & 15)]));
     out.push(b'\n');
+}
+
+/// The records that the fits test looked at.
+pub fn looked(count: usize, out: &mut Vec<u8>) {
+    writeln!(out, "looked {count}").expect("a vector takes every byte");
+}
+
+/// The bytes and the count, or the refusal alone: a refused print reports nothing.
+fn counted(result: Result<Printed, Refusal>, out: &mut Vec<u8>) {
+    match result {
+        Ok(printed) => {
+            shown("print", &printed.text, out);
+            looked(printed.looked, out);
+        }
+        Err(refusal) => refusal.line(out),
+    }
+    out.extend(b"kept\n");
 }
 
 /// The bytes or the refusal. No correct answer touches a byte beyond its own, so it is always `kept`.

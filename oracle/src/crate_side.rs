@@ -1,9 +1,9 @@
 //! What the unchanged crate answers: tokens with places, symbols, and the layout of trees.
-//! Where it has no answer (bytes that are not UTF-8, pieces, tables, unfitting empty lists), document 01's.
+//! Where it has no answer (bytes that are not UTF-8, pieces, tables, unfitting empty lists, the fits test's count), the documents'.
 
 use std::str::from_utf8;
 
-use crate::answer::Side;
+use crate::answer::{Printed, Side};
 use crate::document::lex::{self, literal_len, refused_at};
 use crate::document::{calls, layout, read, table};
 use crate::drive::Feeder;
@@ -35,10 +35,11 @@ impl Side for CrateSide {
         table::trees(table, printing, &is_symbol)
     }
 
-    fn lay_out(&self, trees: &[Tree], width: usize) -> Vec<u8> {
+    fn lay_out(&self, trees: &[Tree], width: usize) -> Printed {
         let page = layout::page(trees, width);
+        let looked = page.looked;
         if page.unfitting_empty_list || !trees.iter().all(is_text) {
-            return page.out;
+            return Printed { text: page.out, looked };
         }
         let mut out = Vec::new();
         for (i, tree) in trees.iter().enumerate() {
@@ -49,7 +50,7 @@ impl Side for CrateSide {
             print_node(tree, width, &mut out).expect("a vector takes every byte");
             out.push(b'\n');
         }
-        out
+        Printed { text: out, looked }
     }
 }
 

@@ -8,7 +8,7 @@ pub struct Frame {
     pub bytes: Vec<u8>,
 }
 
-pub const OPS: &[u8] = b"LFfCcRPWKVv";
+pub const OPS: &[u8] = b"LFfCcRPWKVvQ";
 
 /// The probe's rooms for a source, a table and an output.
 pub const SOURCE_ROOM: usize = 1_114_112;
@@ -23,6 +23,11 @@ impl Frame {
         out.extend((self.bytes.len() as u32).to_le_bytes());
         out.extend(&self.bytes);
     }
+}
+
+/// The table of op Q: one byte before it is the layout, and there is one; of no bytes the table is empty.
+pub fn after_layout(bytes: &[u8]) -> &[u8] {
+    bytes.get(1..).unwrap_or_default()
 }
 
 /// The frame at the front of `bytes` and what follows it; None where no whole frame is left.

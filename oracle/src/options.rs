@@ -3,11 +3,11 @@
 use crate::frame::OPS;
 
 pub const USAGE: &str = "usage:
-  oracle compare [--ops L,F,f,C,c,R,P,W,K,V,v] [--cases N] [--first K] [--seed S] [--families A,B] [--batch N] [--patience SECONDS] -- PROBE [WORDS...]
+  oracle compare [--ops L,F,f,C,c,R,P,W,K,V,v,Q] [--cases N] [--first K] [--seed S] [--families A,B] [--batch N] [--patience SECONDS] -- PROBE [WORDS...]
       runs N cases of each op, from number K on, through the probe and stops at the first difference
   oracle sample [--ops ...] [--cases N] [--seed S] [--families A,B] FRAMES EXPECTED
       writes a fixed sample of N cases of each op: the frames to one file, the answers to the other
-families: pieces literals comments text damaged bytes trees real limit (sources), small tables broken (tables)";
+families: pieces literals comments text damaged bytes trees real limit (sources), small tables broken looks (tables)";
 
 pub struct Options {
     pub ops: Vec<u8>,

@@ -1,6 +1,6 @@
 //! The ops V and v: document 02, "Print through a small window", told from the ordinary print, whose text is cut at the windows.
 
-use crate::answer::{Side, print, shown};
+use crate::answer::{Printed, Side, looked, print, shown};
 use crate::frame::OUTPUT_ROOM;
 
 /// What such a frame holds: a window's length for each call, how many calls are on the first table, and the tables.
@@ -41,10 +41,10 @@ impl Calls {
     }
 }
 
-/// A print that has begun: its table, its text, and the bytes that were given.
+/// A print that has begun: its table, what the ordinary print gives, and the bytes that were given.
 struct Begun<'a> {
     table: &'a [u8],
-    text: Vec<u8>,
+    whole: Printed,
     given: usize,
 }
 
@@ -56,7 +56,7 @@ pub fn answers(side: &dyn Side, calls: &Calls, width: usize, out: &mut Vec<u8>) 
         let (table, window) = (calls.table(call), (*length as usize).min(OUTPUT_ROOM));
         let print = match begun.take() {
             Some(print) => Ok(print),
-            None => print(side, table, width, usize::MAX).map(|text| Begun { table, text, given: 0 }),
+            None => print(side, table, width, usize::MAX).map(|whole| Begun { table, whole, given: 0 }),
         };
         match print {
             Err(refusal) => refusal.line(out),
@@ -65,14 +65,15 @@ pub fn answers(side: &dyn Side, calls: &Calls, width: usize, out: &mut Vec<u8>) 
                     print.table == table,
                     "the table changed after bytes were given, which is a case for v"
                 );
-                let given = print.given;
-                print.given += window.min(print.text.len() - given);
-                if given == print.text.len() {
+                let (given, len) = (print.given, print.whole.text.len());
+                print.given += window.min(len - given);
+                if given == len {
                     out.extend(b"end\n");
+                    looked(print.whole.looked, out);
                 } else {
-                    shown("window", &print.text[given..print.given], out);
+                    shown("window", &print.whole.text[given..print.given], out);
                 }
-                let moved = print.given > 0 || print.text.is_empty();
+                let moved = print.given > 0 || len == 0;
                 begun = moved.then_some(print);
             }
         }

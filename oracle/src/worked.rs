@@ -1,7 +1,9 @@
 //! Document 01's cases that are worked by hand, and some like them and for document 02, with the answers by hand.
 //! They come first in every comparison and sample, and the tests hold both sides against them.
 
-// by its path, for host/src names this file by its own
+// by their paths, for host/src names this file by its own
+#[path = "worked/counts.rs"]
+mod counts;
 #[path = "worked/windows.rs"]
 mod windows;
 
@@ -21,6 +23,7 @@ fn cases() -> Vec<Case> {
     cases.extend(printing());
     cases.extend(checking());
     cases.extend(windows::cases());
+    cases.extend(counts::cases());
     cases
 }
 

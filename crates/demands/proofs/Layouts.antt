@@ -1,4 +1,4 @@
--- Document 01, 'Worked by hand': the layout layouts marked P, and lists that hold empty lists, as one statement. Assumes nothing.
+-- Document 01, 'Worked by hand': the layouts marked P, and lists that hold empty lists; with the records that the fits test looks at (document 02, 3/12). Assumes nothing.
 use Prim.Native.Nat.{ℕ}
 use mathlib.Core.Path.{_≡_, refl}
 use mathlib.Core.List.{List, [], _∷_, map}
@@ -13,23 +13,32 @@ use Rattle.table.specs.Trees.{Tree, Trees, symbol, integer, binding, list, none
 use Rattle.table.specs.Records.{recordAt}
 use Rattle.table.specs.Decoding.{itemsAt, stepAt, treeAt, treesAt, tableOf}
 use Rattle.printer.specs.Layout.{breakColumn, fitsIn, cost, lay, pageFrom, page}
-use Rattle.printer.specs.Printing.{printing, printedInto}
+use Rattle.printer.specs.Looking.{shares, upTo, looksIn, looked, pageLooked}
+use Rattle.printer.specs.Printing.{text, printing, printedInto}
 
 pub record Case : Type 0 where
   pub trees : Trees
   pub width : ℕ
+  pub looked : ℕ
   pub size : ℕ
-  pub text : List ℕ
+  pub bytes : List ℕ
 
-abbrev layout : Trees → ℕ → ℕ → List ℕ → Case
-layout xs w n o = record { trees = xs; width = w; size = n; text = o }
+abbrev layout : Trees → ℕ → ℕ → ℕ → List ℕ → Case
+layout xs w k n o = record { trees = xs; width = w; looked = k; size = n; bytes = o }
 
 abbrev empty : Tree
 empty = list none
 
+abbrev a : Tree
+a = symbol (97 ∷ [])
+
 -- `(a b)`
 abbrev a-b : Tree
-a-b = list (more (symbol (97 ∷ [])) (more (symbol (98 ∷ [])) none))
+a-b = list (more a (more (symbol (98 ∷ [])) none))
+
+-- `x @ (a)`
+abbrev x-a : Tree
+x-a = binding (120 ∷ []) (list (more a none))
 
 -- `(rule (a b) c)`
 abbrev pub ruleTree : Tree
@@ -41,26 +50,30 @@ empties = list (more empty (more empty (more empty (more a-b none))))
 
 -- `(()()()x @ (a))`
 abbrev bound : Tree
-bound = list (more empty (more empty (more empty (more (binding (120 ∷ []) (list (more (symbol (97 ∷ [])) none))) none))))
+bound = list (more empty (more empty (more empty (more x-a none))))
 
 unfoldable pub layouts : List Case
 layouts =
-    -- at 14 `(rule (a b) c)`; at 13 `(rule`, `    (a b)`, `    c`, `)`
-    layout (more ruleTree none) 14 15 (40 ∷ 114 ∷ 117 ∷ 108 ∷ 101 ∷ 32 ∷ 40 ∷ 97 ∷ 32 ∷ 98 ∷ 41 ∷ 32 ∷ 99 ∷ 41 ∷ 10 ∷ [])
-    ∷ layout (more ruleTree none) 13 24 (40 ∷ 114 ∷ 117 ∷ 108 ∷ 101 ∷ 10 ∷ 32 ∷ 32 ∷ 32 ∷ 32 ∷ 40 ∷ 97 ∷ 32 ∷ 98 ∷ 41 ∷ 10 ∷ 32 ∷ 32 ∷ 32 ∷ 32 ∷ 99 ∷ 10 ∷ 41 ∷ 10 ∷ [])
+    -- at 14 `(rule (a b) c)`, whose 6 records are all looked at; at 13 `(rule`, `    (a b)`, `    c`, `)`: all 6, of which the last settles it, and then 3
+    layout (more ruleTree none) 14 6 15 (40 ∷ 114 ∷ 117 ∷ 108 ∷ 101 ∷ 32 ∷ 40 ∷ 97 ∷ 32 ∷ 98 ∷ 41 ∷ 32 ∷ 99 ∷ 41 ∷ 10 ∷ [])
+    ∷ layout (more ruleTree none) 13 9 24 (40 ∷ 114 ∷ 117 ∷ 108 ∷ 101 ∷ 10 ∷ 32 ∷ 32 ∷ 32 ∷ 32 ∷ 40 ∷ 97 ∷ 32 ∷ 98 ∷ 41 ∷ 10 ∷ 32 ∷ 32 ∷ 32 ∷ 32 ∷ 99 ∷ 10 ∷ 41 ∷ 10 ∷ [])
     -- `()`, which does not fit and stays on its line
-    ∷ layout (more empty none) 0 3 (40 ∷ 41 ∷ 10 ∷ [])
+    ∷ layout (more empty none) 0 1 3 (40 ∷ 41 ∷ 10 ∷ [])
     -- `(() () () (a b))` costs 13 and fits; `(a b)` in it, at column 10, would not, and is not tested; nor is the tree of a binding
-    ∷ layout (more empties none) 13 17 (40 ∷ 40 ∷ 41 ∷ 32 ∷ 40 ∷ 41 ∷ 32 ∷ 40 ∷ 41 ∷ 32 ∷ 40 ∷ 97 ∷ 32 ∷ 98 ∷ 41 ∷ 41 ∷ 10 ∷ [])
-    ∷ layout (more bound none) 15 19 (40 ∷ 40 ∷ 41 ∷ 32 ∷ 40 ∷ 41 ∷ 32 ∷ 40 ∷ 41 ∷ 32 ∷ 120 ∷ 32 ∷ 64 ∷ 32 ∷ 40 ∷ 97 ∷ 41 ∷ 41 ∷ 10 ∷ [])
+    ∷ layout (more empties none) 13 7 17 (40 ∷ 40 ∷ 41 ∷ 32 ∷ 40 ∷ 41 ∷ 32 ∷ 40 ∷ 41 ∷ 32 ∷ 40 ∷ 97 ∷ 32 ∷ 98 ∷ 41 ∷ 41 ∷ 10 ∷ [])
+    ∷ layout (more bound none) 15 7 19 (40 ∷ 40 ∷ 41 ∷ 32 ∷ 40 ∷ 41 ∷ 32 ∷ 40 ∷ 41 ∷ 32 ∷ 120 ∷ 32 ∷ 64 ∷ 32 ∷ 40 ∷ 97 ∷ 41 ∷ 41 ∷ 10 ∷ [])
     -- at 12 each item but the first is on its own line: `(()`, `    ()`, `    ()`, `    (a b)`, `)`
-    ∷ layout (more empties none) 12 30 (40 ∷ 40 ∷ 41 ∷ 10 ∷ 32 ∷ 32 ∷ 32 ∷ 32 ∷ 40 ∷ 41 ∷ 10 ∷ 32 ∷ 32 ∷ 32 ∷ 32 ∷ 40 ∷ 41 ∷ 10 ∷ 32 ∷ 32 ∷ 32 ∷ 32 ∷ 40 ∷ 97 ∷ 32 ∷ 98 ∷ 41 ∷ 10 ∷ 41 ∷ 10 ∷ [])
+    ∷ layout (more empties none) 12 13 30 (40 ∷ 40 ∷ 41 ∷ 10 ∷ 32 ∷ 32 ∷ 32 ∷ 32 ∷ 40 ∷ 41 ∷ 10 ∷ 32 ∷ 32 ∷ 32 ∷ 32 ∷ 40 ∷ 41 ∷ 10 ∷ 32 ∷ 32 ∷ 32 ∷ 32 ∷ 40 ∷ 97 ∷ 32 ∷ 98 ∷ 41 ∷ 10 ∷ 41 ∷ 10 ∷ [])
+    -- `((a))`, whose first record settles it; the list in it begins past the width, and is not looked at: `((a`, `)`, `)`
+    ∷ layout (more (list (more (list (more a none)) none)) none) 0 1 8 (40 ∷ 40 ∷ 97 ∷ 10 ∷ 41 ∷ 10 ∷ 41 ∷ 10 ∷ [])
+    -- `x @ (a)` twice: the list behind a binding is tested, in each tree
+    ∷ layout (more x-a (more x-a none)) 100 4 17 (120 ∷ 32 ∷ 64 ∷ 32 ∷ 40 ∷ 97 ∷ 41 ∷ 10 ∷ 10 ∷ 120 ∷ 32 ∷ 64 ∷ 32 ∷ 40 ∷ 97 ∷ 41 ∷ 10 ∷ [])
     -- nothing of an empty table; `16` and `-7`, with an empty line between
-    ∷ layout none 100 0 []
-    ∷ layout (more (integer (pos 16)) (more (integer (negsuc 6)) none)) 100 7 (49 ∷ 54 ∷ 10 ∷ 10 ∷ 45 ∷ 55 ∷ 10 ∷ [])
+    ∷ layout none 100 0 0 []
+    ∷ layout (more (integer (pos 16)) (more (integer (negsuc 6)) none)) 100 0 7 (49 ∷ 54 ∷ 10 ∷ 10 ∷ 45 ∷ 55 ∷ 10 ∷ [])
     ∷ []
 
-pub pages : map (λ (c : Case). page (c .trees) (c .width)) layouts ≡ map (λ (c : Case). c .text) layouts
+pub pages : map (λ (c : Case). page (c .trees) (c .width)) layouts ≡ map (λ (c : Case). c .bytes) layouts
 unfolding layouts breakColumn fitsIn cost lay pageFrom integerText digits
 pages = refl
 
@@ -69,10 +82,10 @@ unfolding layouts breakColumn fitsIn cost lay pageFrom integerText digits
 sizes = refl
 
 -- the same of their tables: the answer of `print`, and a buffer of that size after it
-pub answers : map (λ (c : Case). printing (recordsOf (c .trees)) (c .width) (c .size)) layouts ≡ map (λ (c : Case). ok (c .size)) layouts
-unfolding layouts breakColumn fitsIn cost lay pageFrom integerText digits printing tableOf treesAt treeAt itemsAt recordAt headAt stepAt number isSymbol runsOn classOf records record-of le
+pub answers : map (λ (c : Case). printing (recordsOf (c .trees)) (c .width) (c .size)) layouts ≡ map (λ (c : Case). ok (text (c .size) (c .looked))) layouts
+unfolding layouts breakColumn fitsIn cost lay pageFrom shares upTo looksIn looked pageLooked integerText digits printing tableOf treesAt treeAt itemsAt recordAt headAt stepAt number isSymbol runsOn classOf records record-of le
 answers = refl
 
-pub buffers : map (λ (c : Case). printedInto (recordsOf (c .trees)) (c .width) (replicate (c .size) 0)) layouts ≡ map (λ (c : Case). c .text) layouts
+pub buffers : map (λ (c : Case). printedInto (recordsOf (c .trees)) (c .width) (replicate (c .size) 0)) layouts ≡ map (λ (c : Case). c .bytes) layouts
 unfolding layouts breakColumn fitsIn cost lay pageFrom integerText digits printedInto tableOf treesAt treeAt itemsAt recordAt headAt stepAt number isSymbol runsOn classOf records record-of le
 buffers = refl

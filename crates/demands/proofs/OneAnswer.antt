@@ -156,20 +156,23 @@ read-same (read.Refused r) (read.Table m) e = cc
 read-same (read.Refused r) (read.Refused s) e = ap read.Refused (refusal-same r s (cc) (cc))
 
 pub print-same : (a b : Printed) → printOf a ≡ printOf b → a ≡ b
-print-same (printed.Text n) (printed.Text m) e = ap printed.Text (cc)
-print-same (printed.Text n) (printed.Refused s) e = cc
-print-same (printed.Refused r) (printed.Text m) e = cc
+print-same (printed.Text n j) (printed.Text m k) e =
+    let a : n ≡ m = cc in
+    let b : j ≡ k = cc in
+    ap (λ (x : ℕ). printed.Text x j) a ∙ ap (printed.Text m) b
+print-same (printed.Text n j) (printed.Refused s) e = cc
+print-same (printed.Refused r) (printed.Text m k) e = cc
 print-same (printed.Refused r) (printed.Refused s) e = ap printed.Refused (refusal-same r s (cc) (cc))
 
 part-same : (a b : WindowAnswer) → partOf a ≡ partOf b → a ≡ b
 part-same (window.Bytes n) (window.Bytes m) e = ap window.Bytes (cc)
-part-same (window.Bytes n) window.End e = cc
+part-same (window.Bytes n) (window.End k) e = cc
 part-same (window.Bytes n) (window.Refused s) e = cc
-part-same window.End (window.Bytes m) e = cc
-part-same window.End window.End e = refl
-part-same window.End (window.Refused s) e = cc
+part-same (window.End j) (window.Bytes m) e = cc
+part-same (window.End j) (window.End k) e = ap window.End (cc)
+part-same (window.End j) (window.Refused s) e = cc
 part-same (window.Refused r) (window.Bytes m) e = cc
-part-same (window.Refused r) window.End e = cc
+part-same (window.Refused r) (window.End k) e = cc
 part-same (window.Refused r) (window.Refused s) e = ap window.Refused (refusal-same r s (cc) (cc))
 
 pub fill-same : (f g : Filled) (b c : List ℕ) → callOf f b ≡ callOf g c → (f ≡ g) × (b ≡ c)

@@ -7,6 +7,7 @@ one-answer-doors = record {
   words·put-token = λ κs a x y s t e f. e ∙ sym f;
   words·put-refusal = λ κs a x y s t e f. e ∙ sym f;
   words·put-length = λ κs a x y s t e f. e ∙ sym f;
+  words·put-text = λ κs a x y s t e f. e ∙ sym f;
   words·put-lexed = λ κs a x y s t e f. e ∙ sym f;
   words·put-out = λ κs a x y s t e f. e ∙ sym f;
   tulbazhik-lex·tulbazhik-next-token = λ κs a x y s t e f. e ∙ sym f;

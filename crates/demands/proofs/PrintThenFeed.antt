@@ -18,7 +18,8 @@ use Rattle.table.specs.Printable.{Printables}
 use Rattle.table.specs.Accepted.{Accepted}
 use Rattle.table.proofs.Whole.{complete, sound}
 use Rattle.printer.specs.Layout.{page}
-use Rattle.printer.specs.Printing.{roomed, answered, leaves, printing, printedInto}
+use Rattle.printer.specs.Looking.{pageLooked}
+use Rattle.printer.specs.Printing.{text, roomed, answered, leaves, printing, printedInto}
 use Rattle.demands.specs.PrintThenFeed.{Yields, TextOf, PrintThenFeed}
 use Rattle.demands.proofs.CutAnywhere.{cut-anywhere}
 use Rattle.demands.proofs.Spellable.{Spellables, spellables}
@@ -35,20 +36,20 @@ text-of t xs q w hb e l =
 
 pub print-then-feed : PrintThenFeed
 unfolding printing printedInto
-print-then-feed t w m b hb e l = by (tableOf true t) refl e
+print-then-feed t w m n b hb e l = by (tableOf true t) refl e
   where
     roomy : (xs : Trees) (q : ℕ) → tableOf true t ≡ ok (found xs q) → (r : Bool)
-        → cond r (ok (length (page xs w))) (refused printRoom (length (page xs w))) ≡ ok m → TextOf t (take m (cond r (over (page xs w) b) b))
+        → cond r (ok (text (length (page xs w)) (pageLooked xs w))) (refused printRoom (length (page xs w))) ≡ ok (text m n) → TextOf t (take m (cond r (over (page xs w) b) b))
     roomy xs q f true h =
         let k : length (page xs w) ≡ m = cc in
         subst (TextOf t) (sym (take-at (page xs w) (drop (length (page xs w)) b) m k)) (text-of t xs q w hb f (subst (λ (x : ℕ). x ≤ sourceLimit) (sym k) l))
     roomy xs q f false h = let z : _≡_ {A = ℕ} 0 1 = cc in absurd (omega arith)
 
-    by : (f : Result (Found Trees)) → tableOf true t ≡ f → answered f w (length b) ≡ ok m → TextOf t (take m (leaves f w b))
+    by : (f : Result (Found Trees)) → tableOf true t ≡ f → answered f w (length b) ≡ ok (text m n) → TextOf t (take m (leaves f w b))
     by (ok (found xs q)) f h = roomy xs q f (leb (length (page xs w)) (length b)) h
     by (refused n a) f h = let z : _≡_ {A = ℕ} 0 1 = cc in absurd (omega arith)
 
 -- and the table of good trees is printed, where it is no longer than a table may be and none of its integers is -2^127: their text, in a room for it, or 18
-pub print-of-trees : (xs : Trees) (w k : ℕ) → Goods xs depthLimit → Printables xs → length (recordsOf xs) ≤ tableLimit → printing (recordsOf xs) w k ≡ roomed (page xs w) k
+pub print-of-trees : (xs : Trees) (w k : ℕ) → Goods xs depthLimit → Printables xs → length (recordsOf xs) ≤ tableLimit → printing (recordsOf xs) w k ≡ roomed (page xs w) (pageLooked xs w) k
 unfolding printing
 print-of-trees xs w k g p h = ap (λ (f : Result (Found Trees)). answered f w k) (complete true xs g (λ e. p) h)

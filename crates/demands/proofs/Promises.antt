@@ -59,6 +59,7 @@ promises = record {
   words·put-token = λ κs a x s. refl;
   words·put-refusal = λ κs a x s. refl;
   words·put-length = λ κs a x s. refl;
+  words·put-text = λ κs a x s. refl;
   words·put-lexed = λ κs a x s. refl;
   words·put-out = λ κs a x s. refl;
   tulbazhik-lex·tulbazhik-next-token = λ κs a x s. refl;

@@ -14,7 +14,8 @@ use Rattle.table.specs.Trees.{runsOn, isSymbol}
 use Rattle.table.specs.Records.{recordAt}
 use Rattle.table.specs.Decoding.{itemsAt, stepAt, treeAt, treesAt, tableOf}
 use Rattle.printer.specs.Layout.{breakColumn, fitsIn}
-use Rattle.printer.specs.Fitting.{entryAt, fitsFrom, fitsAt}
+use Rattle.printer.specs.declared.cost.Tested.{Tested}
+use Rattle.printer.specs.Fitting.{tested, entryAt, fitsFrom, fitsAt}
 use Rattle.windows.specs.declared.State.{State}
 use Rattle.windows.specs.declared.Phase.the-variants.{Node, Done}
 use Rattle.windows.specs.Machine.{state, freshState, putOf, nextOf}
@@ -55,21 +56,21 @@ in-last : Not (false ≡ fitsIn 3 1 2)
 unfolding fitsIn
 in-last e = let z : _≡_ {A = ℕ} 0 1 = cc in omega arith
 
--- printer::cost::fits: `(ab)` costs 4; without its item; a record that is cut short
+-- printer::cost::fits: `(ab)` costs 4; without its item; a record that is cut short. The records looked at: RefutedCounts
 abbrev listed : List ℕ
 listed = 10 ∷ 0 ∷ 0 ∷ 0 ∷ 4 ∷ 0 ∷ 1 ∷ 0 ∷ 0 ∷ 0 ∷ twoBytes
 
-fits-last : Not (false ≡ fitsAt listed 0 4 0)
+fits-last : Not (tested false 2 ≡ fitsAt listed 0 4 0)
 unfolding fitsAt fitsFrom entryAt number
-fits-last e = let z : _≡_ {A = ℕ} 0 1 = cc in omega arith
+fits-last e = let f : false ≡ true = ap (λ (x : Tested). x .fits) e in let z : _≡_ {A = ℕ} 0 1 = cc in omega arith
 
-fits-own : Not (true ≡ fitsAt listed 0 3 0)
+fits-own : Not (tested true 1 ≡ fitsAt listed 0 3 0)
 unfolding fitsAt fitsFrom entryAt number
-fits-own e = let z : _≡_ {A = ℕ} 0 1 = cc in omega arith
+fits-own e = let f : true ≡ false = ap (λ (x : Tested). x .fits) e in let z : _≡_ {A = ℕ} 0 1 = cc in omega arith
 
-fits-cut : Not (true ≡ fitsAt (7 ∷ 0 ∷ []) 0 9 0)
+fits-cut : Not (tested true 0 ≡ fitsAt (7 ∷ 0 ∷ []) 0 9 0)
 unfolding fitsAt fitsFrom entryAt number
-fits-cut e = let z : _≡_ {A = ℕ} 0 1 = cc in omega arith
+fits-cut e = let f : true ≡ false = ap (λ (x : Tested). x .fits) e in let z : _≡_ {A = ℕ} 0 1 = cc in omega arith
 
 -- windows::fresh: at the second byte; done
 fresh-on : Not (1 ≡ freshState .cursor .at)
@@ -84,11 +85,11 @@ unfolding fillOf run putOf nextOf tableOf treesAt treeAt recordAt headAt stepAt 
 fill-skips e = let z : _≡_ {A = ℕ} 10 98 = ap (λ (b : List ℕ). getD b 0 0) e in omega arith
 
 -- the end with a byte left; the end with the last byte; no end where none is left; no end in a window of length 0
-fill-early : Not (ok end ≡ fillOf oneByte 0 (after oneByte 1) [] .answer)
+fill-early : Not (ok (end 0) ≡ fillOf oneByte 0 (after oneByte 1) [] .answer)
 unfolding fillOf run putOf nextOf tableOf treesAt treeAt recordAt headAt stepAt number isSymbol runsOn classOf
 fill-early e = let z : _≡_ {A = ℕ} 0 1 = cc in omega arith
 
-fill-last : Not (ok end ≡ fillOf oneByte 0 freshState (9 ∷ 9 ∷ []) .answer)
+fill-last : Not (ok (end 0) ≡ fillOf oneByte 0 freshState (9 ∷ 9 ∷ []) .answer)
 unfolding fillOf run putOf nextOf tableOf treesAt treeAt recordAt headAt stepAt number isSymbol runsOn classOf
 fill-last e = let z : _≡_ {A = ℕ} 0 1 = cc in omega arith
 

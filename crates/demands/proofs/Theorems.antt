@@ -5,6 +5,7 @@ use Rattle.table.proofs.Faults as table-faults
 use Rattle.reader.proofs.ReadGood as reader-good
 use Rattle.reader.proofs.ReadTokens as reader-tokens
 use Rattle.reader.proofs.ReadAccepts as reader-accepts
+use Rattle.printer.proofs.LookedBound as bounds
 use Rattle.windows.proofs.AnyCall as windows-any
 use Rattle.windows.proofs.NeverRoom as windows-room
 use Rattle.windows.proofs.Joined as windows-joint
@@ -35,6 +36,7 @@ theorems = record {
   read-good = reader-good.read-good;
   read-tokens = reader-tokens.read-tokens;
   read-accepts = reader-accepts.read-accepts;
+  looked-bound = bounds.looked-bound;
   windows-joined = windows-joint.windows-joined;
   windows-end = windows-joint.windows-end;
   windows-refused = windows-joint.windows-refused;

@@ -14,6 +14,7 @@ use Rattle.table.specs.Decoding.{itemsAt, stepAt, treeAt, treesAt, tableOf}
 use Rattle.reader.specs.Grammar.{readItems, readTree, fileOf}
 use Rattle.reader.specs.Reading.{reading, readInto}
 use Rattle.printer.specs.Layout.{breakColumn, fitsIn, cost, lay, pageFrom}
+use Rattle.printer.specs.Looking.{shares, upTo, looksIn, looked, pageLooked}
 use Rattle.printer.specs.Fitting.{entryAt, fitsFrom, fitsAt}
 use Rattle.printer.specs.Printing.{printing, printedInto}
 use Rattle.windows.specs.Machine.{putOf, nextOf}
@@ -21,5 +22,5 @@ use Rattle.windows.specs.Filling.{run, fillOf, calls}
 use Rattle.demands.specs.Worked.{cases, Worked}
 
 pub worked : Worked
-unfolding cases tokensFrom nextToken lexIn skip symbolEnd classOf literalByte digitOf taken grow digitsRead literalEnd radixOf concluded unsignedIn val grown integerOf reading readInto fileOf readItems readTree records record-of headAt le number printing printedInto tableOf treesAt treeAt itemsAt recordAt stepAt isSymbol runsOn pageFrom lay cost breakColumn fitsIn digits integerText entryAt fitsFrom fitsAt putOf nextOf run fillOf calls
+unfolding cases tokensFrom nextToken lexIn skip symbolEnd classOf literalByte digitOf taken grow digitsRead literalEnd radixOf concluded unsignedIn val grown integerOf reading readInto fileOf readItems readTree records record-of headAt le number printing printedInto tableOf treesAt treeAt itemsAt recordAt stepAt isSymbol runsOn pageFrom lay cost breakColumn fitsIn digits integerText shares upTo looksIn looked pageLooked entryAt fitsFrom fitsAt putOf nextOf run fillOf calls
 worked = refl

@@ -17,6 +17,7 @@ use Rattle.table.specs.Trees.{Tree, symbol, none, more as and, runsOn, isSymbol
 use Rattle.table.specs.Records.{recordAt}
 use Rattle.table.specs.Decoding.{itemsAt, stepAt, treeAt, treesAt, tableOf}
 use Rattle.printer.specs.Layout.{breakColumn, fitsIn, cost, lay, pageFrom}
+use Rattle.printer.specs.Looking.{shares, upTo, looksIn, looked, pageLooked, nodes}
 use Rattle.printer.specs.Printing.{printedInto}
 use Rattle.demands.specs.Driver.{driveBy}
 use Rattle.demands.specs.WrongPrograms.{WrongPrograms}
@@ -30,7 +31,7 @@ abbrev a : Tree
 a = symbol (97 ∷ [])
 
 pub wrong-programs : WrongPrograms
-unfolding driveBy feedOf feedFrom closeOf closing step turn classOf tokensFrom nextToken lexIn skip symbolEnd printedInto tableOf treesAt treeAt itemsAt recordAt headAt stepAt number isSymbol runsOn breakColumn fitsIn cost lay pageFrom records record-of le
+unfolding driveBy feedOf feedFrom closeOf closing step turn classOf tokensFrom nextToken lexIn skip symbolEnd printedInto tableOf treesAt treeAt itemsAt recordAt headAt stepAt number isSymbol runsOn breakColumn fitsIn cost lay pageFrom records record-of le shares upTo looksIn looked pageLooked nodes
 wrong-programs = record {
   refuses-all = λ number place e. let z : _≡_ {A = ℕ} 0 1 = cc in omega arith;
   first-piece = λ e. no-token (token rparen 1 1) (ap (λ (f : Fed). f .reply) e);
@@ -45,4 +46,8 @@ wrong-programs = record {
   one-line-text = λ f. let e : _≡_ {A = ℕ} 32 10 = ap (λ (l : List ℕ). getD l 5 0) (f (and ruleTree none) 13) in omega arith;
   -- no bytes are the text both of no tree and of one
   same-text = λ o f. let e : _≡_ {A = ℕ} 0 2 = ap length (sym (f none 0) ∙ f (and a none) 0) in omega arith;
+  -- no number is that of no tree and of a list; at width 13 the 6 records of `(rule (a b) c)` make 9; a first record that settles it is looked at
+  same-count = λ k f. let e : _≡_ {A = ℕ} 0 6 = sym (f none 0) ∙ f (and ruleTree none) 14 in omega arith;
+  counts-once = λ f. let e : _≡_ {A = ℕ} 6 9 = f (and ruleTree none) 13 in omega arith;
+  leaves-out = λ f. let e : _≡_ {A = ℕ} 0 1 = f (1 ∷ []) 0 in omega arith;
 }

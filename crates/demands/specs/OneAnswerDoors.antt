@@ -3,6 +3,7 @@ use denote.Ref.{now}
 use Rattle.words.proofs.put_token.Reads as words-put-token
 use Rattle.words.proofs.put_refusal.Reads as words-put-refusal
 use Rattle.words.proofs.put_length.Reads as words-put-length
+use Rattle.words.proofs.put_text.Reads as words-put-text
 use Rattle.words.proofs.put_lexed.Reads as words-put-lexed
 use Rattle.words.proofs.put_out.Reads as words-put-out
 use Rattle.tulbazhik_lex.proofs.tulbazhik_next_token.Reads as tulbazhik-lex-tulbazhik-next-token
@@ -21,6 +22,7 @@ pub record OneAnswerDoors : Type 0 where
   pub words·put-token : Left words-put-token.Post (λ κs s. now (s .1 .1 .1 .0))
   pub words·put-refusal : Left words-put-refusal.Post (λ κs s. now (s .1 .1 .0))
   pub words·put-length : Left words-put-length.Post (λ κs s. now (s .1 .0))
+  pub words·put-text : Left words-put-text.Post (λ κs s. now (s .1 .1 .0))
   pub words·put-lexed : Left words-put-lexed.Post (λ κs s. now (s .1 .0))
   pub words·put-out : Left words-put-out.Post (λ κs s. now (s .1 .0))
   pub tulbazhik-lex·tulbazhik-next-token : Left tulbazhik-lex-tulbazhik-next-token.Post (λ κs s. now (s .1 .1 .0))

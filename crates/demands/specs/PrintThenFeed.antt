@@ -10,7 +10,7 @@ use Rattle.lexer.specs.Streams.{ends}
 use Rattle.lexer.specs.BareTokens.{bareTokens}
 use Rattle.feeder.specs.Feeding.{freshState}
 use Rattle.table.specs.Trees.{Trees, treesTokens, Goods, recordsOf}
-use Rattle.printer.specs.Printing.{printing, printedInto}
+use Rattle.printer.specs.Printing.{text, printing, printedInto}
 use Rattle.windows.specs.declared.State.{State}
 use Rattle.windows.specs.Filling.{end, fillOf, calls}
 use Rattle.windows.specs.Joined.{Begins}
@@ -30,10 +30,10 @@ pub record TextOf (t o : List ℕ) : Type 0 where
 -- if a table is printed at a width, in m bytes of the lent buffer, and a source may be as long, then the table holds good trees, and these m
 -- bytes yield exactly their tokens
 abbrev pub PrintThenFeed : Type 0
-PrintThenFeed = (t : List ℕ) (w m : ℕ) (b : List ℕ) → Bytes t → printing t w (length b) ≡ ok m → m ≤ sourceLimit → TextOf t (take m (printedInto t w b))
+PrintThenFeed = (t : List ℕ) (w m k : ℕ) (b : List ℕ) → Bytes t → printing t w (length b) ≡ ok (text m k) → m ≤ sourceLimit → TextOf t (take m (printedInto t w b))
 
 -- if a call answers the end, then what the windows bs before it were given, joined, does the same
 abbrev pub WindowsThenFeed : Type 0
 WindowsThenFeed =
-    (t : List ℕ) (w : ℕ) (s : State) (bs : List (List ℕ)) (b : List ℕ) → Bytes t → Begins s → fillOf t w (calls t w s bs .state) b .answer ≡ ok end
+    (t : List ℕ) (w k : ℕ) (s : State) (bs : List (List ℕ)) (b : List ℕ) → Bytes t → Begins s → fillOf t w (calls t w s bs .state) b .answer ≡ ok (end k)
     → length (calls t w s bs .out) ≤ sourceLimit → TextOf t (calls t w s bs .out)

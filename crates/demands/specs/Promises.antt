@@ -30,7 +30,8 @@ use Rattle.printer.specs.Printing.{printOf, printing as printingOf, printedInto
 use Rattle.windows.specs.Machine.{state, freshState as freshWindow}
 use Rattle.windows.specs.Filling.{fillOf, callOf, callAt}
 use Rattle.reader.specs.Reading.{readOf, reading as readingOf, readInto}
-use Rattle.words.specs.Words.{tokenWords, refusedWords, doneWords, answerWords, replyWords, fedWords, lengthWords}
+use Rattle.words.specs.Words.{tokenWords, refusedWords, doneWords, textWords, answerWords, replyWords, fedWords, lengthWords}
+use Rattle.tulbazhik_trees.specs.Texts.{printWords}
 use Rattle.tulbazhik_feed.specs.States.{packOf, unpackOf, stateWords}
 use Rattle.tulbazhik_windows.specs.States.{unpackOf as unpackWindow, callWords, stateWords as windowWords}
 use denote.Ref.{now}
@@ -89,6 +90,7 @@ use Rattle.windows.proofs.fill_in.Reads as windows-fill-in
 use Rattle.words.proofs.put_token.Reads as words-put-token
 use Rattle.words.proofs.put_refusal.Reads as words-put-refusal
 use Rattle.words.proofs.put_length.Reads as words-put-length
+use Rattle.words.proofs.put_text.Reads as words-put-text
 use Rattle.words.proofs.put_lexed.Reads as words-put-lexed
 use Rattle.words.proofs.put_out.Reads as words-put-out
 use Rattle.tulbazhik_lex.proofs.tulbazhik_next_token.Reads as tulbazhik-lex-tulbazhik-next-token
@@ -157,6 +159,7 @@ pub record Promises : Type 1 where
   pub words·put-token : (κs : _) (a : _) (x : _) (s : _) → words-put-token.Post κs a x s ≡ (now (s .1 .1 .1 .0) ≡ tokenWords (tokenOf (a .0) (a .1 .0)) (a .1 .1 .0))
   pub words·put-refusal : (κs : _) (a : _) (x : _) (s : _) → words-put-refusal.Post κs a x s ≡ (now (s .1 .1 .0) ≡ refusedWords ((a .0) .number) ((a .0) .place) (a .1 .0))
   pub words·put-length : (κs : _) (a : _) (x : _) (s : _) → words-put-length.Post κs a x s ≡ (now (s .1 .0) ≡ doneWords (a .0))
+  pub words·put-text : (κs : _) (a : _) (x : _) (s : _) → words-put-text.Post κs a x s ≡ (now (s .1 .1 .0) ≡ textWords (a .0) (a .1 .0))
   pub words·put-lexed : (κs : _) (a : _) (x : _) (s : _) → words-put-lexed.Post κs a x s ≡ (now (s .1 .0) ≡ answerWords (answerOf (a .0)))
   pub words·put-out : (κs : _) (a : _) (x : _) (s : _) → words-put-out.Post κs a x s ≡ (now (s .1 .0) ≡ replyWords (replyOf ((a .0) .answer)) ((a .0) .used))
   pub tulbazhik-lex·tulbazhik-next-token : (κs : _) (a : _) (x : _) (s : _) → tulbazhik-lex-tulbazhik-next-token.Post κs a x s ≡ (now (s .1 .1 .0) ≡ answerWords (nextToken (now (a .0)) (a .1 .0)))
@@ -166,5 +169,5 @@ pub record Promises : Type 1 where
   pub tulbazhik-feed·states·pack : (κs : _) (a : _) (x : _) (s : _) → tulbazhik-feed-states-pack.Post κs a x s ≡ (x ≡ packOf (a .0))
   pub tulbazhik-feed·states·unpack : (κs : _) (a : _) (x : _) (s : _) → tulbazhik-feed-states-unpack.Post κs a x s ≡ (x ≡ unpackOf (a .0))
   pub tulbazhik-trees·tulbazhik-read : (κs : _) (a : _) (x : _) (s : _) → tulbazhik-trees-tulbazhik-read.Post κs a x s ≡ ((now (s .1 .1 .0) ≡ lengthWords (readingOf (now (a .0)) (length (now (a .1 .0))))) × (now (s .1 .0) ≡ readInto (now (a .0)) (now (a .1 .0))))
-  pub tulbazhik-trees·tulbazhik-print : (κs : _) (a : _) (x : _) (s : _) → tulbazhik-trees-tulbazhik-print.Post κs a x s ≡ ((now (s .1 .1 .1 .0) ≡ lengthWords (printingOf (now (a .0)) (a .1 .0) (length (now (a .1 .1 .0))))) × (now (s .1 .1 .0) ≡ printedInto (now (a .0)) (a .1 .0) (now (a .1 .1 .0))))
+  pub tulbazhik-trees·tulbazhik-print : (κs : _) (a : _) (x : _) (s : _) → tulbazhik-trees-tulbazhik-print.Post κs a x s ≡ ((now (s .1 .1 .1 .0) ≡ printWords (printingOf (now (a .0)) (a .1 .0) (length (now (a .1 .1 .0))))) × (now (s .1 .1 .0) ≡ printedInto (now (a .0)) (a .1 .0) (now (a .1 .1 .0))))
   pub tulbazhik-windows·tulbazhik-fill : (κs : _) (a : _) (x : _) (s : _) → tulbazhik-windows-tulbazhik-fill.Post κs a x s ≡ ((now (s .1 .1 .1 .1 .0) ≡ callWords (fillOf (now (a .0)) (a .1 .0) (unpackWindow (now (a .1 .1 .0))) (now (a .1 .1 .1 .0)))) × (now (s .1 .1 .0) ≡ windowWords (fillOf (now (a .0)) (a .1 .0) (unpackWindow (now (a .1 .1 .0))) (now (a .1 .1 .1 .0)))) × (now (s .1 .1 .1 .0) ≡ fillOf (now (a .0)) (a .1 .0) (unpackWindow (now (a .1 .1 .0))) (now (a .1 .1 .1 .0)) .window))

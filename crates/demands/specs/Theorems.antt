@@ -14,6 +14,7 @@ use Rattle.table.specs.Printable.{Printables}
 use Rattle.table.specs.Accepted.{Accepted}
 use Rattle.table.specs.Faults.{FaultPlaced}
 use Rattle.reader.specs.Promised.{ReadGood, ReadTokens, ReadAccepts}
+use Rattle.printer.specs.Looking.{LookedBound}
 use Rattle.windows.specs.AnyCall.{GivenWithin, NoRoom, EndStays, RefusedAtFirst, NeverRoom}
 use Rattle.windows.specs.Joined.{WindowsJoined, WindowsEnd, WindowsRefused, WindowsPrinted, PrintRefused}
 use Rattle.tulbazhik_windows.specs.States.{ThroughWords}
@@ -44,11 +45,13 @@ pub record Theorems : Type 0 where
   pub read-good : ReadGood
   pub read-tokens : ReadTokens
   pub read-accepts : ReadAccepts
-  -- the windows of a table, whatever their lengths, joined are its text, and then the end is answered; what is refused is refused at the first call
+  -- the fits test looks at no more than 64 times the records of the table
+  pub looked-bound : LookedBound
+  -- the windows of a table, whatever their lengths, joined are its text, and then the end is answered, with the number of records that the fits test looks at; what is refused is refused at the first call
   pub windows-joined : WindowsJoined
   pub windows-end : WindowsEnd
   pub windows-refused : WindowsRefused
-  -- the text is the ordinary print's, and so are the refusals but for room
+  -- the text and that number are the ordinary print's, and so are the refusals but for room
   pub windows-printed : WindowsPrinted
   pub print-refused : PrintRefused
   -- a host that keeps the 72 words of the door for C gets the same bytes and answers

@@ -8,7 +8,7 @@ use Rattle.refusals.specs.Result.{Result, ok, refused, andThen}
 use Rattle.lexer.specs.Tokens.{symbol, int, token}
 use Rattle.lexer.specs.Streams.{Stream, ends, then, tokensOf}
 use Rattle.reader.specs.Reading.{reading, readInto}
-use Rattle.printer.specs.Printing.{printing, printedInto}
+use Rattle.printer.specs.Printing.{Text, text, printing, printedInto}
 use Rattle.windows.specs.declared.State.{State}
 use Rattle.windows.specs.Machine.{freshState}
 use Rattle.windows.specs.Filling.{Answer, part, end, fillOf, calls}
@@ -21,24 +21,29 @@ pub data Run : Type 0 where
   table : List ℕ → ℕ → Run
   windowed : List ℕ → ℕ → List ℕ → Run
 
--- tokens and how they end; the bytes of a table or of a text, or the refusal; what each call answers, and the windows joined
+-- the bytes of a text, and the records that the fits test looked at
+pub data Page : Type 0 where
+  page : List ℕ → ℕ → Page
+
+-- tokens and how they end; the bytes of a table, or a text, or the refusal; what each call answers, and the windows joined
 pub data Outcome : Type 0 where
   tokens : Stream → Outcome
   bytes : Result (List ℕ) → Outcome
+  paged : Result Page → Outcome
   parts : List Answer → List ℕ → Outcome
 
 abbrev room : List ℕ
 room = replicate 80 0
 
 -- the bytes that were reported, of the room as it is afterwards
-abbrev front : Result ℕ → List ℕ → Result (List ℕ)
-front r b = andThen r (λ n. ok (take n b))
-
 abbrev tabled : List ℕ → Result (List ℕ)
-tabled s = front (reading s 80) (readInto s room)
+tabled s = andThen (reading s 80) (λ n. ok (take n (readInto s room)))
 
-abbrev texted : List ℕ → ℕ → Result (List ℕ)
-texted t w = front (printing t w 80) (printedInto t w room)
+abbrev shown : List ℕ → Text → Page
+shown b (text n k) = page (take n b) k
+
+abbrev texted : List ℕ → ℕ → Result Page
+texted t w = andThen (printing t w 80) (λ x. ok (shown (printedInto t w room) x))
 
 -- a window of n bytes is not empty before the call
 abbrev window : ℕ → List ℕ
@@ -52,8 +57,8 @@ answers t w s (n ∷ ns) = fillOf t w s (window n) .answer ∷ answers t w (fill
 abbrev ran : Run → Outcome
 ran (lexed s) = tokens (tokensOf s)
 ran (read s) = bytes (tabled s)
-ran (printed s w) = bytes (andThen (tabled s) (λ t. texted t w))
-ran (table t w) = bytes (texted t w)
+ran (printed s w) = paged (andThen (tabled s) (λ t. texted t w))
+ran (table t w) = paged (texted t w)
 ran (windowed t w ns) = parts (answers t w freshState ns) (calls t w freshState (map window ns) .out)
 
 pub record Case : Type 0 where
@@ -98,24 +103,25 @@ cases =
     ∷ case (read (120 ∷ 32 ∷ 64 ∷ 32 ∷ 40 ∷ 97 ∷ 41 ∷ []))
     (bytes (ok (7 ∷ 0 ∷ 0 ∷ 0 ∷ 3 ∷ 0 ∷ 120 ∷ 10 ∷ 0 ∷ 0 ∷ 0 ∷ 4 ∷ 0 ∷ 1 ∷ 0 ∷ 0 ∷ 0 ∷ 7 ∷ 0 ∷ 0 ∷ 0 ∷ 1 ∷ 0 ∷ 97 ∷ [])))
     ∷ case (read (120 ∷ 32 ∷ 64 ∷ 32 ∷ 41 ∷ [])) (bytes (refused 12 4))
-    -- `(rule (a b) c)` at width 14 and at 13; `()` at width 0
-    ∷ case (printed rule 14) (bytes (ok (40 ∷ 114 ∷ 117 ∷ 108 ∷ 101 ∷ 32 ∷ 40 ∷ 97 ∷ 32 ∷ 98 ∷ 41 ∷ 32 ∷ 99 ∷ 41 ∷ 10 ∷ [])))
+    -- `(rule (a b) c)` at width 14 and at 13; `()` at width 0. Document 02, 3/12: at 14 the test looks at all 6 records; at 13 at all 6, of which the last settles it, and then
+    -- at the 3 of `(a b)`; at `()` alone
+    ∷ case (printed rule 14) (paged (ok (page (40 ∷ 114 ∷ 117 ∷ 108 ∷ 101 ∷ 32 ∷ 40 ∷ 97 ∷ 32 ∷ 98 ∷ 41 ∷ 32 ∷ 99 ∷ 41 ∷ 10 ∷ []) 6)))
     ∷ case (printed rule 13)
-    (bytes (ok (40 ∷ 114 ∷ 117 ∷ 108 ∷ 101 ∷ 10 ∷ 32 ∷ 32 ∷ 32 ∷ 32 ∷ 40 ∷ 97 ∷ 32 ∷ 98 ∷ 41 ∷ 10 ∷ 32 ∷ 32 ∷ 32 ∷ 32 ∷ 99 ∷ 10 ∷ 41 ∷ 10 ∷ [])))
-    ∷ case (printed (40 ∷ 41 ∷ []) 0) (bytes (ok (40 ∷ 41 ∷ 10 ∷ [])))
+    (paged (ok (page (40 ∷ 114 ∷ 117 ∷ 108 ∷ 101 ∷ 10 ∷ 32 ∷ 32 ∷ 32 ∷ 32 ∷ 40 ∷ 97 ∷ 32 ∷ 98 ∷ 41 ∷ 10 ∷ 32 ∷ 32 ∷ 32 ∷ 32 ∷ 99 ∷ 10 ∷ 41 ∷ 10 ∷ []) 9)))
+    ∷ case (printed (40 ∷ 41 ∷ []) 0) (paged (ok (page (40 ∷ 41 ∷ 10 ∷ []) 1)))
     -- document 02, 1/12: table faults. A length below 6 and an unknown kind; that kind alone; a list of length 11; a list whose item is missing; one whose item is cut short
-    ∷ case (table (5 ∷ 0 ∷ 0 ∷ 0 ∷ 5 ∷ 0 ∷ []) 0) (bytes (refused 15 0))
-    ∷ case (table (6 ∷ 0 ∷ 0 ∷ 0 ∷ 5 ∷ 0 ∷ []) 0) (bytes (refused 20 0))
-    ∷ case (table (11 ∷ 0 ∷ 0 ∷ 0 ∷ 4 ∷ 0 ∷ 0 ∷ 0 ∷ 0 ∷ 0 ∷ 0 ∷ []) 0) (bytes (refused 21 0))
-    ∷ case (table (10 ∷ 0 ∷ 0 ∷ 0 ∷ 4 ∷ 0 ∷ 1 ∷ 0 ∷ 0 ∷ 0 ∷ []) 0) (bytes (refused 22 10))
-    ∷ case (table (10 ∷ 0 ∷ 0 ∷ 0 ∷ 4 ∷ 0 ∷ 1 ∷ 0 ∷ 0 ∷ 0 ∷ 7 ∷ []) 0) (bytes (refused 15 10))
+    ∷ case (table (5 ∷ 0 ∷ 0 ∷ 0 ∷ 5 ∷ 0 ∷ []) 0) (paged (refused 15 0))
+    ∷ case (table (6 ∷ 0 ∷ 0 ∷ 0 ∷ 5 ∷ 0 ∷ []) 0) (paged (refused 20 0))
+    ∷ case (table (11 ∷ 0 ∷ 0 ∷ 0 ∷ 4 ∷ 0 ∷ 0 ∷ 0 ∷ 0 ∷ 0 ∷ 0 ∷ []) 0) (paged (refused 21 0))
+    ∷ case (table (10 ∷ 0 ∷ 0 ∷ 0 ∷ 4 ∷ 0 ∷ 1 ∷ 0 ∷ 0 ∷ 0 ∷ []) 0) (paged (refused 22 10))
+    ∷ case (table (10 ∷ 0 ∷ 0 ∷ 0 ∷ 4 ∷ 0 ∷ 1 ∷ 0 ∷ 0 ∷ 0 ∷ 7 ∷ []) 0) (paged (refused 15 10))
     -- document 02, 2/12: `(rule (a b) c)` at width 13 through windows of 5, 0, 9, 9, 3 and 0 bytes, then 2; through one of 24; no trees; a table that is refused, and refused again
     ∷ case (windowed ruleTable 13 (5 ∷ 0 ∷ 9 ∷ 9 ∷ 3 ∷ 0 ∷ 2 ∷ []))
-    (parts (ok (part 5) ∷ ok (part 0) ∷ ok (part 9) ∷ ok (part 9) ∷ ok (part 1) ∷ ok end ∷ ok end ∷ [])
+    (parts (ok (part 5) ∷ ok (part 0) ∷ ok (part 9) ∷ ok (part 9) ∷ ok (part 1) ∷ ok (end 9) ∷ ok (end 9) ∷ [])
     (40 ∷ 114 ∷ 117 ∷ 108 ∷ 101 ∷ 10 ∷ 32 ∷ 32 ∷ 32 ∷ 32 ∷ 40 ∷ 97 ∷ 32 ∷ 98 ∷ 41 ∷ 10 ∷ 32 ∷ 32 ∷ 32 ∷ 32 ∷ 99 ∷ 10 ∷ 41 ∷ 10 ∷ []))
     ∷ case (windowed ruleTable 14 (24 ∷ []))
     (parts (ok (part 15) ∷ []) (40 ∷ 114 ∷ 117 ∷ 108 ∷ 101 ∷ 32 ∷ 40 ∷ 97 ∷ 32 ∷ 98 ∷ 41 ∷ 32 ∷ 99 ∷ 41 ∷ 10 ∷ []))
-    ∷ case (windowed [] 0 (0 ∷ 1 ∷ [])) (parts (ok end ∷ ok end ∷ []) [])
+    ∷ case (windowed [] 0 (0 ∷ 1 ∷ [])) (parts (ok (end 0) ∷ ok (end 0) ∷ []) [])
     ∷ case (windowed (6 ∷ 0 ∷ 0 ∷ 0 ∷ 5 ∷ 0 ∷ []) 0 (0 ∷ 1 ∷ [])) (parts (refused 20 0 ∷ refused 20 0 ∷ []) [])
     ∷ []
 

@@ -3,7 +3,7 @@ use mathlib.Core.Path.{_≡_}
 use mathlib.Core.List.{List, [], _∷_}
 use mathlib.Core.Bool.{cond}
 use Prim.Native.Nat.{ℕ, _+_, _-_, _^_}
-use lib.Dec.{eqb}
+use lib.Dec.{ltb, eqb}
 use lib.ListN.{length}
 use Rattle.refusals.specs.Result.{ok, refused}
 use Rattle.lists.specs.Over.{over}
@@ -14,6 +14,7 @@ use Rattle.feeder.specs.declared.State.{State}
 use Rattle.feeder.specs.Feeding.{more, Fed, fed, freshState, feedOf, closeOf}
 use Rattle.table.specs.Trees.{Trees}
 use Rattle.printer.specs.Layout.{page}
+use Rattle.printer.specs.Looking.{upTo, pageLooked, nodesOf}
 use Rattle.printer.specs.Printing.{printedInto}
 use Rattle.demands.specs.Driver.{driveBy}
 
@@ -49,6 +50,11 @@ sameBytes o t w b = over o b
 abbrev pub untouched : Printer
 untouched t w b = b
 
+-- a fits test that leaves the record out that settles "no"
+abbrev pub unsettled : List ℕ → ℕ → ℕ
+unsettled [] rest = 0
+unsettled (k ∷ ks) rest = cond (ltb rest k) 0 (unsettled ks (rest - k) + 1)
+
 pub record WrongPrograms : Type 0 where
   -- `a` is a symbol
   pub refuses-all : (number place : List ℕ → ℕ → ℕ) → refusesAll number place (97 ∷ []) 0 ≡ nextToken (97 ∷ []) 0 → ⊥
@@ -65,3 +71,7 @@ pub record WrongPrograms : Type 0 where
   -- as texts of trees
   pub one-line-text : ((xs : Trees) (w : ℕ) → page xs widest ≡ page xs w) → ⊥
   pub same-text : (o : List ℕ) → ((xs : Trees) (w : ℕ) → o ≡ page xs w) → ⊥
+  -- as the number of records that is reported (document 02, 3/12): always the same; each record once; without the one that settles
+  pub same-count : (k : ℕ) → ((xs : Trees) (w : ℕ) → k ≡ pageLooked xs w) → ⊥
+  pub counts-once : ((xs : Trees) (w : ℕ) → nodesOf xs ≡ pageLooked xs w) → ⊥
+  pub leaves-out : ((ks : List ℕ) (rest : ℕ) → unsettled ks rest ≡ upTo ks rest) → ⊥

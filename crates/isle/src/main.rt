@@ -18,7 +18,7 @@ fn show_refusal(r: Refusal) {
 
 fn print(table: &[u8], out: &mut [u8]) {
     match printer::print(table, WIDTH, out) {
-        Printed::Text(n) => {
+        Printed::Text(n, _) => {
             if n <= ROOM {
                 let k = io::count(n as isize, out);
                 io::write_all(1, &out[..k]);

@@ -1,7 +1,7 @@
 -- The fits test on numbers; its walk over a table is the layout's test where a tree stands, and the code's on any bytes. Assumes that the table's elements are bytes.
 use mathlib.Core.Path.{_≡_, refl, ap, sym, subst, _∙_}
 use mathlib.Core.Bool.{Bool, true, false, cond, _&&_}
-use mathlib.Core.List.{List, _++_, append-assoc, append-nil}
+use mathlib.Core.List.{List, [], _∷_, _++_, append-assoc, append-nil}
 use Prim.Native.Nat.{ℕ, zero, suc, _+_, _-_, _≤_, _<_}
 use native.Mathlib.Omega.{arith}
 use lib.ListN.{length}
@@ -24,8 +24,9 @@ use Rattle.lists.proofs.Stands.{Stands, stands-left, stands-right, stands-lengt
 use Rattle.table.proofs.Heads.{Sized, Sizeds, good-sized, reads, value-read}
 use Rattle.table.proofs.Decoded.{Holds, tree-holds}
 use Rattle.printer.specs.Layout.{fitsIn, fits, cost, costs}
+use Rattle.printer.specs.Looking.{shares, sharesOf, upTo, looksIn, looks}
 use Rattle.printer.specs.PrivateTrees.{Right, Sound, treeOf}
-use Rattle.printer.specs.Fitting.{entryAt, walk, fitsFrom, fitsAt}
+use Rattle.printer.specs.Fitting.{Tested, tested, counted, entryAt, walk, fitsFrom, fitsAt}
 use Rattle.printer.specs.PrivateFitting.{entryOf, Forward, Entered}
 use Rattle.printer.specs.declared.cost.Entry.{Entry}
 use Rattle.printer.specs.declared.cost.Entry.the-variants.{Is, Bad as NoEntry}
@@ -75,6 +76,13 @@ cost-own (integer z) = omega arith
 cost-own (binding n x) = omega arith
 cost-own (list xs) = omega arith
 
+shares-own : (x : Tree) → shares x ≡ ownCost x ∷ sharesOf (kids x)
+unfolding shares
+shares-own (symbol n) = refl
+shares-own (integer z) = refl
+shares-own (binding n x) = ap (λ (r : List ℕ). (length n + 3) ∷ r) (sym (append-nil (shares x)))
+shares-own (list xs) = refl
+
 kids-sized : (x : Tree) → Sized x → Sizeds (kids x)
 unfolding Sized
 kids-sized (symbol n) g = tt
@@ -86,6 +94,11 @@ records-app : (xs ys : Trees) → recordsOf (app xs ys) ≡ recordsOf xs ++ reco
 unfolding records
 records-app none ys = refl
 records-app (more x xs) ys = ap (λ (r : List ℕ). records x ++ r) (records-app xs ys) ∙ sym (append-assoc (records x) (recordsOf xs) (recordsOf ys))
+
+shares-app : (xs ys : Trees) → sharesOf (app xs ys) ≡ sharesOf xs ++ sharesOf ys
+unfolding shares
+shares-app none ys = refl
+shares-app (more x xs) ys = ap (λ (r : List ℕ). shares x ++ r) (shares-app xs ys) ∙ sym (append-assoc (shares x) (sharesOf xs) (sharesOf ys))
 
 sums-app : (xs ys : Trees) → (costs (app xs ys) ≡ costs xs + costs ys) × (count (app xs ys) ≡ count xs + count ys)
 unfolding cost
@@ -132,15 +145,17 @@ module _ (w c : ℕ) where
   unfolding fitsIn
   fits-test k h = rw (le-leb c w h) refl
 
--- ---- the walk where trees stand: those still due, and the answer that they decide with what is left
+-- ---- the walk where trees stand: those still due, which decide the answer with what is left
 
-record Due (t : List ℕ) (p due rest : ℕ) (answer : Bool) : Type 0 where
+record Due (t : List ℕ) (p due : ℕ) (xs : Trees) : Type 0 where
   within : p ≤ length t
-  xs : Trees
   sized : Sizeds xs
   stands : Stands t p (recordsOf xs)
   many : count xs ≡ due
-  test : answer ≡ leb (costs xs) rest
+
+-- what trees decide: whether they cost no more than what is left, and the records looked at for it
+judged : Trees → ℕ → Tested
+judged xs rest = tested (leb (costs xs) rest) (upTo (sharesOf xs) rest)
 
 -- two tests of which each decides the other
 leb-same : (a b c d : ℕ) → (a ≤ b → c ≤ d) → (b < a → d < c) → leb a b ≡ leb c d
@@ -150,96 +165,115 @@ leb-same a b c d f g = by (leb a b) refl
     by true e = sym (le-leb c d (f (leb-true a b e)))
     by false e = sym (lt-leb c d (g (leb-false a b e)))
 
-due-none : (rest : ℕ) (answer : Bool) (xs : Trees) → count xs ≡ 0 → answer ≡ leb (costs xs) rest → true ≡ answer
-unfolding cost
-due-none rest answer none k e = sym (e ∙ le-leb 0 rest (omega arith))
-due-none rest answer (more x xs) k e = absurd (omega arith)
+judged-none : (rest : ℕ) (xs : Trees) → count xs ≡ 0 → tested true 0 ≡ judged xs rest
+unfolding cost shares upTo judged
+judged-none rest none k = ap (λ (z : Bool). tested z 0) (sym (le-leb 0 rest (omega arith)))
+judged-none rest (more x xs) k = absurd (omega arith)
+
+-- the first tree's record settles it, or the trees in it come due in its place
+judged-more : (x : Tree) (xs : Trees) (rest : ℕ)
+    → judged (more x xs) rest ≡ cond (ltb rest (ownCost x)) (tested false 1) (counted 1 (judged (app (kids x) xs) (rest - ownCost x)))
+unfolding cost shares upTo judged
+judged-more x xs rest =
+    ap (λ (ks : List ℕ). tested (leb (cost x + costs xs) rest) (upTo ks rest))
+    (ap (λ (ks : List ℕ). ks ++ sharesOf xs) (shares-own x) ∙ ap (λ (ks : List ℕ). ownCost x ∷ ks) (sym (shares-app (kids x) xs)))
+    ∙ by (ltb rest (ownCost x)) refl
+  where
+    by : (z : Bool) → ltb rest (ownCost x) ≡ z
+        → tested (leb (cost x + costs xs) rest) (cond z 1 (upTo (sharesOf (app (kids x) xs)) (rest - ownCost x) + 1)) ≡ cond z (tested false 1) (counted 1 (tested (leb (costs (app (kids x) xs)) (rest - ownCost x)) (upTo (sharesOf (app (kids x) xs)) (rest - ownCost x))))
+    by true e = ap (λ (f : Bool). tested f 1) (lt-leb (cost x + costs xs) rest (omega (arith, ltb-true rest (ownCost x) e, cost-own x)))
+    by false e =
+        let l = ltb-false rest (ownCost x) e in
+        let a = sums-app (kids x) xs in
+        ap (λ (f : Bool). tested f (upTo (sharesOf (app (kids x) xs)) (rest - ownCost x) + 1))
+        (leb-same (cost x + costs xs) rest (costs (app (kids x) xs)) (rest - ownCost x) (λ h. omega (arith, cost-own x, a .0)) (λ h. omega (arith, cost-own x, a .0, l)))
 
 module _ (t : List ℕ) (hb : Bytes t) where
   -- where a tree is due, its entry is read, and the trees in it come due in its place
-  due-turn : (p due rest : ℕ) (answer : Bool) (xs : Trees) → Sizeds xs → Stands t p (recordsOf xs) → count xs ≡ due → answer ≡ leb (costs xs) rest → p ≤ length t → 0 < due
-      → (go : ℕ → ℕ → ℕ → Bool)
-      → ((k size m : ℕ) → m ≤ k → k ≤ rest → Due t (p + size) (due - 1 + m) (rest - k) answer → go size m (rest - k) ≡ answer)
-      → walk (entryAt t p) rest go ≡ answer
-  unfolding Sized records cost
-  due-turn p due rest answer none g s e r hp hd go ih = absurd (omega arith)
-  due-turn p due rest answer (more x xs) g s e r hp hd go ih =
-      ap (λ (y : Entry). walk y rest go) is ∙ by (ltb rest (ownCost x)) refl
+  due-turn : (p due rest : ℕ) (xs : Trees) → Due t p due xs → 0 < due → (go : ℕ → ℕ → ℕ → Tested)
+      → ((k size m : ℕ) (ys : Trees) → m ≤ k → k ≤ rest → Due t (p + size) (due - 1 + m) ys → go size m (rest - k) ≡ judged ys (rest - k))
+      → walk (entryAt t p) rest go ≡ judged xs rest
+  unfolding Sized records
+  due-turn p due rest none h hd go ih = absurd (omega (arith, h .many))
+  due-turn p due rest (more x xs) h hd go ih =
+      ap (λ (y : Entry). walk y rest go) is ∙ by (ltb rest (ownCost x)) refl ∙ sym (judged-more x xs rest)
     where
-      ys : Trees
-      ys = app (kids x) xs
-
       sx : Stands t p (records x)
-      sx = stands-left t p (records x) (recordsOf xs) s
+      sx = stands-left t p (records x) (recordsOf xs) (h .stands)
 
       is : entryAt t p ≡ Is (ownCost x) (length (own x)) (count (kids x))
-      is = entered-of t p _ _ _ (recordAt t p) (entryAt t p) (entry-own x t p (g .0) hp sx) (entry-entered t p hb)
+      is = entered-of t p _ _ _ (recordAt t p) (entryAt t p) (entry-own x t p (h .sized .0) (h .within) sx) (entry-entered t p hb)
 
       all : Stands t p (own x ++ recordsOf (app (kids x) xs))
       all =
           subst (Stands t p)
           (ap (λ (r : List ℕ). r ++ recordsOf xs) (records-own x) ∙ append-assoc (own x) (recordsOf (kids x)) (recordsOf xs) ∙ ap (λ (r : List ℕ). own x ++ r) (sym (records-app (kids x) xs)))
-          s
+          (h .stands)
 
-      by : (z : Bool) → ltb rest (ownCost x) ≡ z → cond z false (go (length (own x)) (count (kids x)) (rest - ownCost x)) ≡ answer
-      by true ez = sym (r ∙ lt-leb (cost x + costs xs) rest (omega (arith, ltb-true rest (ownCost x) ez, cost-own x)))
-      by false ez =
-          let l = ltb-false rest (ownCost x) ez in
+      by : (z : Bool) → ltb rest (ownCost x) ≡ z
+          → cond z (tested false 1) (counted 1 (go (length (own x)) (count (kids x)) (rest - ownCost x))) ≡ cond z (tested false 1) (counted 1 (judged (app (kids x) xs) (rest - ownCost x)))
+      by true e = refl
+      by false e =
           let a = sums-app (kids x) xs in
-          ih (ownCost x) (length (own x)) (count (kids x)) (few x) l (record {
-            within = omega (arith, stands-length t p (own x) hp (stands-left t p (own x) (recordsOf (app (kids x) xs)) all));
-            xs = app (kids x) xs;
-            sized = sized-app (kids x) xs (kids-sized x (g .0)) (g .1);
+          ap (counted 1)
+          (ih (ownCost x) (length (own x)) (count (kids x)) (app (kids x) xs) (few x) (ltb-false rest (ownCost x) e) (record {
+            within = omega (arith, stands-length t p (own x) (h .within) (stands-left t p (own x) (recordsOf (app (kids x) xs)) all));
+            sized = sized-app (kids x) xs (kids-sized x (h .sized .0)) (h .sized .1);
             stands = stands-right t p (own x) (recordsOf (app (kids x) xs)) all;
-            many = omega (arith, a .1);
-            test = r ∙ leb-same (cost x + costs xs) rest (costs (app (kids x) xs)) (rest - ownCost x) (λ h. omega (arith, cost-own x, a .0)) (λ h. omega (arith, cost-own x, a .0, l));
-          })
+            many = omega (arith, a .1, h .many);
+          }))
 
   -- with enough records, the walk decides what the trees due decide
-  fits-due : (n p due rest : ℕ) (answer : Bool) → Due t p due rest answer → due + rest ≤ n → fitsFrom n t p due rest ≡ answer
+  fits-due : (n p due rest : ℕ) (xs : Trees) → Due t p due xs → due + rest ≤ n → fitsFrom n t p due rest ≡ judged xs rest
   unfolding fitsFrom
-  fits-due zero p due rest answer h l = let z : due ≡ 0 = omega arith in rw z (due-none rest answer (h .xs) (h .many ∙ z) (h .test))
-  fits-due (suc n) p due rest answer h l = by (eqb due 0) refl (fits-due n)
+  fits-due zero p due rest xs h l = let z : due ≡ 0 = omega arith in rw z (judged-none rest xs (h .many ∙ z))
+  fits-due (suc n) p due rest xs h l = by (eqb due 0) refl (fits-due n)
     where
-      by : (z : Bool) → eqb due 0 ≡ z → ((p due rest : ℕ) (answer : Bool) → Due t p due rest answer → due + rest ≤ n → fitsFrom n t p due rest ≡ answer)
-          → cond z true (walk (entryAt t p) rest (λ size more r. fitsFrom n t (p + size) (due - 1 + more) r)) ≡ answer
-      by true e ih = due-none rest answer (h .xs) (h .many ∙ eqb-true due 0 e) (h .test)
+      by : (z : Bool) → eqb due 0 ≡ z → ((p due rest : ℕ) (xs : Trees) → Due t p due xs → due + rest ≤ n → fitsFrom n t p due rest ≡ judged xs rest)
+          → cond z (tested true 0) (walk (entryAt t p) rest (λ size more r. fitsFrom n t (p + size) (due - 1 + more) r)) ≡ judged xs rest
+      by true e ih = judged-none rest xs (h .many ∙ eqb-true due 0 e)
       by false e ih =
           let f = eqb-false due 0 e in
           let some : 0 < due = omega (arith, f) in
-          due-turn p due rest answer (h .xs) (h .sized) (h .stands) (h .many) (h .test) (h .within) some
+          due-turn p due rest xs h some
           (λ size more r. fitsFrom n t (p + size) (due - 1 + more) r)
-          (λ k size m hm hk d. ih (p + size) (due - 1 + m) (rest - k) answer d (omega (arith, some)))
+          (λ k size m ys hm hk d. ih (p + size) (due - 1 + m) (rest - k) ys d (omega (arith, some)))
 
-  -- the test on bytes is the layout's where a tree stands
-  pub fits-stands : (x : Tree) (p w c : ℕ) → Sized x → p ≤ length t → Stands t p (records x) → fitsAt t p w c ≡ fits w c x
-  unfolding fitsAt fitsIn records Sized cost
-  fits-stands x p w c g hp s =
-      ap (λ (z : Bool). leb c w && z)
-      (fits-due (w - c + 1) p 1 (w - c) (leb (cost x) (w - c)) (record {
-        within = hp;
-        xs = more x none;
-        sized = (g, tt);
-        stands = subst (Stands t p) (sym (append-nil (records x))) s;
-        many = refl;
-        test = leb-same (cost x) (w - c) (cost x + 0) (w - c) (λ h. omega arith) (λ h. omega arith);
-      }) (omega arith))
+  -- the test on bytes is the layout's where a tree stands, and looks at as many records as it is defined to
+  pub fits-stands : (x : Tree) (p w c : ℕ) → Sized x → p ≤ length t → Stands t p (records x) → fitsAt t p w c ≡ tested (fits w c x) (looks w c x)
+  unfolding fitsAt fitsIn looksIn records Sized judged cost shares
+  fits-stands x p w c g hp s = by (leb c w)
+    where
+      due : Due t p 1 (more x none)
+      due = record { within = hp; sized = (g, tt); stands = subst (Stands t p) (sym (append-nil (records x))) s; many = refl }
+
+      alone : (rest : ℕ) → judged (more x none) rest ≡ tested (leb (cost x) rest) (upTo (shares x) rest)
+      alone rest =
+          ap (λ (f : Bool). tested f (upTo (shares x ++ []) rest)) (leb-same (cost x + 0) rest (cost x) rest (λ h. omega arith) (λ h. omega arith))
+          ∙ ap (λ (ks : List ℕ). tested (leb (cost x) rest) (upTo ks rest)) (append-nil (shares x))
+
+      by : (z : Bool) → cond z (fitsFrom (w - c + 1) t p 1 (w - c)) (tested false 0) ≡ tested (z && leb (cost x) (w - c)) (cond z (upTo (shares x) (w - c)) 0)
+      by true = fits-due (w - c + 1) p 1 (w - c) (more x none) due (omega arith) ∙ alone (w - c)
+      by false = refl
 
   -- and so where one was found
-  pub fits-right : (d p w c : ℕ) → p ≤ length t → Right (treeAt t true d p) → fitsAt t p w c ≡ fits w c (treeOf (treeAt t true d p))
-  fits-right d p w c hp r = by (treeAt t true d p) (tree-holds t hb true d p hp) r
+  pub fits-right : (d p w c : ℕ) (z : Tested) → z ≡ fitsAt t p w c → p ≤ length t → Right (treeAt t true d p)
+      → (z .fits ≡ fits w c (treeOf (treeAt t true d p))) × (z .looked ≡ looks w c (treeOf (treeAt t true d p)))
+  fits-right d p w c z ez hp r = by (treeAt t true d p) (tree-holds t hb true d p hp) r
     where
-      by : (y : Result (Found Tree)) → Holds t true d p y → Right y → fitsAt t p w c ≡ fits w c (treeOf y)
+      by : (y : Result (Found Tree)) → Holds t true d p y → Right y → (z .fits ≡ fits w c (treeOf y)) × (z .looked ≡ looks w c (treeOf y))
       by (refused n a) h r = absurd r
-      by (ok (found x q)) h r = fits-stands x p w c (good-sized x d (h .2)) hp (h .0)
+      by (ok (found x q)) h r =
+          let e = ez ∙ fits-stands x p w c (good-sized x d (h .2)) hp (h .0) in
+          (ap (λ (v : Tested). v .fits) e, ap (λ (v : Tested). v .looked) e)
 
 -- ---- the code's walk: what is left to walk decides the answer
 
-fits-none : (k : ℕ) (t : List ℕ) (p due rest : ℕ) → due ≤ 0 → fitsFrom k t p due rest ≡ true
+fits-none : (k : ℕ) (t : List ℕ) (p due rest : ℕ) → due ≤ 0 → fitsFrom k t p due rest ≡ tested true 0
 unfolding fitsFrom
-fits-none zero t p due rest l = eq-eqb due 0 (omega arith)
+fits-none zero t p due rest l = ap (λ (z : Bool). tested z 0) (eq-eqb due 0 (omega arith))
 fits-none (suc k) t p due rest l =
-    ap (λ (z : Bool). cond z true (walk (entryAt t p) rest (λ size more r. fitsFrom k t (p + size) (due - 1 + more) r))) (eq-eqb due 0 (omega arith))
+    ap (λ (z : Bool). cond z (tested true 0) (walk (entryAt t p) rest (λ size more r. fitsFrom k t (p + size) (due - 1 + more) r))) (eq-eqb due 0 (omega arith))
 
 unroll : (k : ℕ) (t : List ℕ) (p due rest : ℕ) → 0 < due → due + rest ≤ k
     → fitsFrom k t p due rest ≡ walk (entryAt t p) rest (λ size more r. fitsFrom (k - 1) t (p + size) (due - 1 + more) r)
@@ -248,24 +282,27 @@ unroll zero t p due rest h l = absurd (omega arith)
 unroll (suc k) t p due rest h l = let e : suc k - 1 ≡ k = omega arith in rw (ne-eqb due 0 (λ z. omega arith), e) refl
 
 -- what is left to walk, while what was walked does not reach past the width
-pub record Rest (t : List ℕ) (at w c reach p due : ℕ) : Type 0 where
+pub record Rest (t : List ℕ) (at w c reach p due looked : ℕ) : Type 0 where
   k : ℕ
   enough : due + (w - reach) ≤ k
-  pub few : due + (w - reach) ≤ w + 1
-  same : fitsFrom k t p due (w - reach) ≡ fitsAt t at w c
+  pub few : looked + due + (w - reach) ≤ w + 1
+  same : counted looked (fitsFrom k t p due (w - reach)) ≡ fitsAt t at w c
 
-pub record Walking (t : List ℕ) (at w c reach p due : ℕ) : Type 0 where
+pub record Walking (t : List ℕ) (at w c reach p due looked : ℕ) : Type 0 where
   bytes : Bytes t
-  pub on : reach ≤ w → Rest t at w c reach p due
-  off : w < reach → false ≡ fitsAt t at w c
+  pub on : reach ≤ w → Rest t at w c reach p due looked
+  off : w < reach → tested false looked ≡ fitsAt t at w c
 
-pub walk-begin : (t : List ℕ) (at w c : ℕ) → Bytes t → Walking t at w c c at 1
+pub walk-begin : (t : List ℕ) (at w c : ℕ) → Bytes t → Walking t at w c c at 1 0
 unfolding fitsAt
 walk-begin t at w c hb = record {
   bytes = hb;
-  on = λ h. record { k = w - c + 1; enough = omega arith; few = omega arith; same = rw (le-leb c w h) refl };
+  on = λ h. record { k = w - c + 1; enough = omega arith; few = omega arith; same = rw (le-leb c w h) (counted-none (fitsFrom (w - c + 1) t at 1 (w - c))) };
   off = λ h. rw (lt-leb c w h) refl;
 }
+  where
+    counted-none : (x : Tested) → counted 0 x ≡ x
+    counted-none x = ap (λ (k : ℕ). tested (x .fits) k) (omega arith)
 
 -- the walk goes on while the width is not passed and a tree is due
 pub walk-test : (w reach due : ℕ) → (leb reach w && ltb 0 due) ≡ true → (reach ≤ w) × (0 < due)
@@ -274,32 +311,37 @@ walk-test w reach due e = (leb-true reach w (and-left (leb reach w) (ltb 0 due) 
 falls : (due rest own m k : ℕ) → 0 < due → m ≤ own → own ≤ rest → due + rest ≤ k → due - 1 + m + (rest - own) ≤ k - 1
 falls due rest own m k hd hm ho l = omega arith
 
-module _ (t : List ℕ) (at w c reach p due : ℕ) (h : Walking t at w c reach p due) where
-  pub walk-end : (leb reach w && ltb 0 due) ≡ false → leb reach w ≡ fitsAt t at w c
+module _ (t : List ℕ) (at w c reach p due looked : ℕ) (h : Walking t at w c reach p due looked) where
+  pub walk-end : (leb reach w && ltb 0 due) ≡ false → tested (leb reach w) looked ≡ fitsAt t at w c
   walk-end e = by (leb reach w) refl e
     where
-      by : (x : Bool) → leb reach w ≡ x → (x && ltb 0 due) ≡ false → x ≡ fitsAt t at w c
-      by true f g = let r = h .on (leb-true reach w f) in sym (fits-none (r .k) t p due (w - reach) (ltb-false 0 due g)) ∙ r .same
+      by : (x : Bool) → leb reach w ≡ x → (x && ltb 0 due) ≡ false → tested x looked ≡ fitsAt t at w c
+      by true f g =
+          let r = h .on (leb-true reach w f) in
+          let z : looked ≡ 0 + looked = omega arith in
+          ap (tested true) z ∙ ap (counted looked) (sym (fits-none (r .k) t p due (w - reach) (ltb-false 0 due g))) ∙ r .same
       by false f g = h .off (leb-false reach w f)
 
   module _ (hr : reach ≤ w) (hd : 0 < due) (e : Entry) (ee : e ≡ entryAt t p) where
-    left : Rest t at w c reach p due
+    left : Rest t at w c reach p due looked
     left = h .on hr
 
-    turned : (y : Entry) → e ≡ y → walk y (w - reach) (λ size more r. fitsFrom (left .k - 1) t (p + size) (due - 1 + more) r) ≡ fitsAt t at w c
+    turned : (y : Entry) → e ≡ y → counted looked (walk y (w - reach) (λ size more r. fitsFrom (left .k - 1) t (p + size) (due - 1 + more) r)) ≡ fitsAt t at w c
     turned y f =
-        ap (λ (y : Entry). walk y (w - reach) (λ size more r. fitsFrom (left .k - 1) t (p + size) (due - 1 + more) r)) (sym f ∙ ee)
-        ∙ sym (unroll (left .k) t p due (w - reach) hd (left .enough)) ∙ left .same
+        ap (λ (y : Entry). counted looked (walk y (w - reach) (λ size more r. fitsFrom (left .k - 1) t (p + size) (due - 1 + more) r))) (sym f ∙ ee)
+        ∙ ap (counted looked) (sym (unroll (left .k) t p due (w - reach) hd (left .enough))) ∙ left .same
 
-    pub walk-bad : e ≡ NoEntry → false ≡ fitsAt t at w c
-    walk-bad f = turned NoEntry f
+    pub walk-bad : e ≡ NoEntry → tested false looked ≡ fitsAt t at w c
+    walk-bad f = let z : looked ≡ 0 + looked = omega arith in ap (tested false) z ∙ turned NoEntry f
 
     module _ (cost size more : ℕ) (f : e ≡ Is cost size more) where
       pub walk-on : Forward t p (Is cost size more)
       walk-on = subst (Forward t p) (sym ee ∙ f) (entry-entered t p (h .bytes) .0)
 
-      at-test : (z : Bool) → ltb (w - reach) cost ≡ z → cond z false (fitsFrom (left .k - 1) t (p + size) (due - 1 + more) (w - reach - cost)) ≡ fitsAt t at w c
-      at-test z ez = sym (ap (λ (y : Bool). cond y false (fitsFrom (left .k - 1) t (p + size) (due - 1 + more) (w - reach - cost))) ez) ∙ turned (Is cost size more) f
+      at-test : (z : Bool) → ltb (w - reach) cost ≡ z
+          → counted looked (cond z (tested false 1) (counted 1 (fitsFrom (left .k - 1) t (p + size) (due - 1 + more) (w - reach - cost)))) ≡ fitsAt t at w c
+      at-test z ez =
+          sym (ap (λ (y : Bool). counted looked (cond y (tested false 1) (counted 1 (fitsFrom (left .k - 1) t (p + size) (due - 1 + more) (w - reach - cost))))) ez) ∙ turned (Is cost size more) f
 
       rest-less : w - reach - cost ≡ w - (reach + cost)
       rest-less = omega arith
@@ -307,13 +349,22 @@ module _ (t : List ℕ) (at w c reach p due : ℕ) (h : Walking t at w c reach p
       fewer : (k : ℕ) → cost ≤ w - reach → due + (w - reach) ≤ k → due - 1 + more + (w - (reach + cost)) ≤ k - 1
       fewer k l g = subst (λ (r : ℕ). due - 1 + more + r ≤ k - 1) rest-less (falls due (w - reach) cost more k hd (walk-on .3) l g)
 
-      still : cost ≤ w - reach → Rest t at w c (reach + cost) (p + size) (due - 1 + more)
+      -- one record more was looked at
+      one-more : (x : Tested) → counted (looked + 1) x ≡ counted looked (counted 1 x)
+      one-more x = ap (λ (k : ℕ). tested (x .fits) k) (omega arith)
+
+      still : cost ≤ w - reach → Rest t at w c (reach + cost) (p + size) (due - 1 + more) (looked + 1)
       still l = record {
         k = left .k - 1;
         enough = fewer (left .k) l (left .enough);
-        few = let g = fewer (w + 1) l (left .few) in omega (arith, g);
-        same = subst (λ (r : ℕ). fitsFrom (left .k - 1) t (p + size) (due - 1 + more) r ≡ fitsAt t at w c) rest-less (at-test false (le-ltb (w - reach) cost l));
+        few = let g = fewer (w + 1 - looked) l (omega (arith, left .few)) in omega (arith, g, left .few);
+        same =
+            subst (λ (r : ℕ). counted (looked + 1) (fitsFrom (left .k - 1) t (p + size) (due - 1 + more) r) ≡ fitsAt t at w c) rest-less
+            (one-more (fitsFrom (left .k - 1) t (p + size) (due - 1 + more) (w - reach - cost)) ∙ at-test false (le-ltb (w - reach) cost l));
       }
 
-      pub walk-step : Walking t at w c (reach + cost) (p + size) (due - 1 + more)
-      walk-step = record { bytes = h .bytes; on = λ l. still (omega (arith, l)); off = λ l. at-test true (lt-ltb (w - reach) cost (omega (arith, l))) }
+      settled : w - reach < cost → tested false (looked + 1) ≡ fitsAt t at w c
+      settled l = let z : looked + 1 ≡ 1 + looked = omega arith in ap (tested false) z ∙ at-test true (lt-ltb (w - reach) cost l)
+
+      pub walk-step : Walking t at w c (reach + cost) (p + size) (due - 1 + more) (looked + 1)
+      walk-step = record { bytes = h .bytes; on = λ l. still (omega (arith, l)); off = λ l. settled (omega (arith, l)) }

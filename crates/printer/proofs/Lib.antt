@@ -2,8 +2,10 @@ pub mod CheckedRecords
 pub mod ShortRooms
 pub mod FitEntries
 pub mod FitWalk
+pub mod LookedBound
 pub mod ListTexts
 pub mod LayoutBounds
 pub mod ListWriting
+pub mod ListCounting
 pub mod MeasuringWalk
 pub mod PageWriting

@@ -1,4 +1,4 @@
--- The trees of a table one after the other: what is done of the page, and what is left; and the answer of `print`. Assumes nothing.
+-- The trees of a table one after the other: what is done of the page, what is left, and the records looked at; and the answer of `print`. Assumes nothing.
 use mathlib.Core.Path.{_≡_, refl, ap, sym, subst, subst⁻¹, _∙_}
 use mathlib.Core.Bool.{Bool, true, false, cond}
 use mathlib.Core.List.{List, [], _∷_, _++_, append-assoc, append-nil}
@@ -15,10 +15,11 @@ use Rattle.refusals.specs.declared.Refusal.{Refusal}
 use Rattle.table.specs.Trees.{Tree, Trees, none, more}
 use Rattle.table.specs.Decoding.{Found, found, treeAt, treesAt, tableOf}
 use Rattle.printer.specs.Layout.{pageFrom, page}
-use Rattle.printer.specs.Printing.{printing, printedInto, printOf}
+use Rattle.printer.specs.Looking.{pageLooked}
+use Rattle.printer.specs.Printing.{text, printing, printedInto, printOf}
 use Rattle.printer.specs.PrivateTrees.{Right, treeOf, treesOf, nextOf}
 use Rattle.lists.specs.Rooms.{Filled, Puts}
-use Rattle.printer.specs.PrivateWriting.{Written, laid, framed}
+use Rattle.printer.specs.PrivateWriting.{Written, laid, seen, framed}
 use Rattle.printer.specs.PrivateMeasuring.{Summed}
 use Rattle.printer.specs.declared.measure.Measured.{Measured}
 use Rattle.printer.specs.declared.measure.Measured.the-variants.{Bytes, Refused as No}
@@ -65,28 +66,33 @@ node-out at w a l k q r₁ r₂ y b b₁ b₂ ys zs fa e₁ fl eb e₂ fk =
     let two = subst⁻¹ (λ (u : List ℕ). Puts (o ++ x) (a + l) b u) eb (puts-both o x b b₁ ys a l r₁ fa′ e₁ (fl .1)) in
     (fl .0, subst (λ (v : List ℕ). Puts v (a + l + k) b (putMid r₂ (length b₂ - r₂) b₂ zs)) (append-assoc o x (10 ∷ [])) (puts-both (o ++ x) (10 ∷ []) b b₂ zs (a + l) k r₂ two e₂ fk))
 
--- ---- of the page the bytes o are done, and the trees from p are left
+-- ---- of the page the bytes o are done, for which k records were looked at, and the trees from p are left
 
-pub record Paging (t : List ℕ) (w : ℕ) (o : List ℕ) (p : ℕ) : Type 0 where
+pub record Paging (t : List ℕ) (w : ℕ) (o : List ℕ) (k p : ℕ) : Type 0 where
   pub read : Read t true p
   pub left : (ys : Trees) → page (read .pre ys) w ≡ o ++ pageFrom (ltb 0 p) ys w
+  pub counted : (ys : Trees) → pageLooked (read .pre ys) w ≡ k + pageLooked ys w
 
 more-page : (later : Bool) (x : Tree) (xs : Trees) (w : ℕ) → pageFrom later (more x xs) w ≡ between later ++ (laid w 0 0 x ++ (10 ∷ pageFrom true xs w))
 unfolding pageFrom
 more-page later x xs w = refl
 
+more-looked : (x : Tree) (xs : Trees) (w : ℕ) → pageLooked (more x xs) w ≡ seen w 0 0 x + pageLooked xs w
+unfolding pageLooked
+more-looked x xs w = refl
+
 -- the bytes of the tree at p
 abbrev pub node : List ℕ → ℕ → ℕ → List ℕ
 node t w p = framed (ltb 0 p) w (treeOf (treeAt t true depthLimit p))
 
-paging-step : (t : List ℕ) (w : ℕ) (o : List ℕ) (p : ℕ) → Paging t w o p → p < length t → Right (tableOf true t)
-    → Right (treeAt t true depthLimit p) × Paging t w (o ++ node t w p) (nextOf (treeAt t true depthLimit p))
-paging-step t w o p g l r = by (treeAt t true depthLimit p) refl
+paging-step : (t : List ℕ) (w : ℕ) (o : List ℕ) (k p : ℕ) → Paging t w o k p → p < length t → Right (tableOf true t)
+    → Right (treeAt t true depthLimit p) × Paging t w (o ++ node t w p) (k + seen w 0 0 (treeOf (treeAt t true depthLimit p))) (nextOf (treeAt t true depthLimit p))
+paging-step t w o k p g l r = by (treeAt t true depthLimit p) refl
   where
     join : (a b c d : List ℕ) → a ++ (b ++ (c ++ (10 ∷ d))) ≡ (a ++ (b ++ (c ++ (10 ∷ [])))) ++ d
     join a b c d = simp append-assoc
 
-    by : (y : Result (Found Tree)) → treeAt t true depthLimit p ≡ y → Right y × Paging t w (o ++ framed (ltb 0 p) w (treeOf y)) (nextOf y)
+    by : (y : Result (Found Tree)) → treeAt t true depthLimit p ≡ y → Right y × Paging t w (o ++ framed (ltb 0 p) w (treeOf y)) (k + seen w 0 0 (treeOf y)) (nextOf y)
     by (refused n a) e = absurd (subst Right (read-stop t true p (g .read) n a l e) r)
     by (ok (found x q)) e =
         let n = read-tree t true p (g .read) q x l e in (
@@ -98,20 +104,26 @@ paging-step t w o p g l r = by (treeAt t true depthLimit p) refl
                 ap (λ (xs : Trees). page xs w) (n .pre-is ys) ∙ g .left (more x ys) ∙ ap (λ (s : List ℕ). o ++ s) (more-page (ltb 0 p) x ys w)
                 ∙ join o (between (ltb 0 p)) (laid w 0 0 x) (pageFrom true ys w)
                 ∙ ap (λ (b : Bool). (o ++ framed (ltb 0 p) w x) ++ pageFrom b ys w) (sym (lt-ltb 0 q (omega (arith, n .past))));
+            counted = λ ys. ap (λ (xs : Trees). pageLooked xs w) (n .pre-is ys) ∙ g .counted (more x ys) ∙ omega (arith, more-looked x ys w);
           },
         )
 
-paging-end : (t : List ℕ) (w : ℕ) (o : List ℕ) (p : ℕ) → Paging t w o p → length t ≤ p → page (treesOf (tableOf true t)) w ≡ o
-unfolding pageFrom
-paging-end t w o p g l = ap (λ (y : Result (Found Trees)). page (treesOf y) w) (read-end t true p (g .read) l) ∙ g .left none ∙ append-nil o
+paging-end : (t : List ℕ) (w : ℕ) (o : List ℕ) (k p : ℕ) → Paging t w o k p → length t ≤ p → (page (treesOf (tableOf true t)) w ≡ o) × (pageLooked (treesOf (tableOf true t)) w ≡ k)
+unfolding pageFrom pageLooked
+paging-end t w o k p g l =
+    let e = read-end t true p (g .read) l in (
+      ap (λ (y : Result (Found Trees)). page (treesOf y) w) e ∙ g .left none ∙ append-nil o,
+      ap (λ (y : Result (Found Trees)). pageLooked (treesOf y) w) e ∙ g .counted none ∙ omega arith,
+    )
 
 -- n bytes are done
-pub record Pages (t : List ℕ) (w : ℕ) (b₀ b : List ℕ) (n p : ℕ) : Type 0 where
+pub record Pages (t : List ℕ) (w : ℕ) (b₀ b : List ℕ) (n k p : ℕ) : Type 0 where
   pub o : List ℕ
-  pub paging : Paging t w o p
+  pub paging : Paging t w o k p
   pub right : Right (tableOf true t)
   pub held : Puts o n b₀ b
   pub small : n ≤ 128 * p
+  pub few : k ≤ depthLimit * p
   pub kept : length b ≡ length b₀
 
 short : (t : List ℕ) → Right (tableOf true t) → length t ≤ tableLimit
@@ -122,19 +134,21 @@ short t r = by (ltb tableLimit (length t)) refl r
     by true e k = absurd k
     by false e k = ltb-false tableLimit (length t) e
 
-pub pages-begin : (t : List ℕ) (w : ℕ) (b : List ℕ) → Right (tableOf true t) → Pages t w b b 0 0
+pub pages-begin : (t : List ℕ) (w : ℕ) (b : List ℕ) → Right (tableOf true t) → Pages t w b b 0 0 0
 pages-begin t w b r = record {
   o = [];
-  paging = record { read = read-begin t true (short t r); left = λ ys. refl };
+  paging = record { read = read-begin t true (short t r); left = λ ys. refl; counted = λ ys. omega arith };
   right = r;
   held = (refl, λ l. refl);
   small = omega arith;
+  few = omega arith;
   kept = refl;
 }
 
-module _ {t : List ℕ} {w : ℕ} {b₀ b : List ℕ} {n p : ℕ} (h : Pages t w b₀ b n p) where
-  step : p < length t → Right (treeAt t true depthLimit p) × Paging t w (h .o ++ node t w p) (nextOf (treeAt t true depthLimit p))
-  step l = paging-step t w (h .o) p (h .paging) l (h .right)
+module _ {t : List ℕ} {w : ℕ} {b₀ b : List ℕ} {n k p : ℕ} (h : Pages t w b₀ b n k p) where
+  step : p < length t
+      → Right (treeAt t true depthLimit p) × Paging t w (h .o ++ node t w p) (k + seen w 0 0 (treeOf (treeAt t true depthLimit p))) (nextOf (treeAt t true depthLimit p))
+  step l = paging-step t w (h .o) k p (h .paging) l (h .right)
 
   pub pages-within : p ≤ length t
   pages-within = h .paging .read .within
@@ -145,23 +159,28 @@ module _ {t : List ℕ} {w : ℕ} {b₀ b : List ℕ} {n p : ℕ} (h : Pages t w
   pub pages-tree : p < length t → Right (treeAt t true depthLimit p)
   pages-tree l = step l .0
 
-  pub pages-step : p < length t → (q l r : ℕ) (ys : List ℕ) → Written (framed (ltb 0 p) w) (treeAt t true depthLimit p) q l (take (length b - r) (drop r b)) ys
+  pub pages-step : p < length t → (q l x r : ℕ) (ys : List ℕ) → Written (framed (ltb 0 p) w) (treeAt t true depthLimit p) q l (take (length b - r) (drop r b)) ys
+      × (x ≡ seen w 0 0 (treeOf (treeAt t true depthLimit p)))
       → (length (laid w 0 0 (treeOf (treeAt t true depthLimit p))) + 300 ≤ 128 * (nextOf (treeAt t true depthLimit p) - p)) × (p < nextOf (treeAt t true depthLimit p))
-      × (nextOf (treeAt t true depthLimit p) ≤ length t) → (n ≤ length b → r ≡ n) → length (putMid r (length b - r) b ys) ≡ length b
-      → Pages t w b₀ (putMid r (length b - r) b ys) (n + l) q
-  pages-step lt q l r ys f s er lk =
+      × (nextOf (treeAt t true depthLimit p) ≤ length t)
+      → seen w 0 0 (treeOf (treeAt t true depthLimit p)) ≤ depthLimit * (nextOf (treeAt t true depthLimit p) - p)
+      → (n ≤ length b → r ≡ n) → length (putMid r (length b - r) b ys) ≡ length b
+      → Pages t w b₀ (putMid r (length b - r) b ys) (n + l) (k + x) q
+  pages-step lt q l x r ys g s m er lk =
+      let f = g .0 in
       let z = framed-le (ltb 0 p) w (treeOf (treeAt t true depthLimit p)) in
       record {
         o = h .o ++ node t w p;
-        paging = subst⁻¹ (λ (v : ℕ). Paging t w (h .o ++ node t w p) v) (f .0) (step lt .1);
+        paging = subst⁻¹ (λ (v : ℕ). Paging t w (h .o ++ node t w p) (k + x) v) (f .0) (subst⁻¹ (λ (v : ℕ). Paging t w (h .o ++ node t w p) (k + v) (nextOf (treeAt t true depthLimit p))) (g .1) (step lt .1));
         right = h .right;
         held = puts-both (h .o) (node t w p) b₀ b ys n l r (h .held) er (f .1);
         small = omega (arith, s .0, s .1, h .small, f .0, f .1 .0, z);
+        few = omega (arith, s .1, h .few, f .0, g .1, m);
         kept = lk ∙ h .kept;
       }
 
-  pub pages-end : length t ≤ p → Puts (page (treesOf (tableOf true t)) w) n b₀ b
-  pages-end l = subst⁻¹ (λ (o : List ℕ). Puts o n b₀ b) (paging-end t w (h .o) p (h .paging) l) (h .held)
+  pub pages-end : length t ≤ p → Filled (page (treesOf (tableOf true t)) w) b₀ b × (k ≡ pageLooked (treesOf (tableOf true t)) w)
+  pages-end l = let e = paging-end t w (h .o) k p (h .paging) l in (subst⁻¹ (λ (o : List ℕ). Filled o b₀ b) (e .0) (h .held .1), sym (e .1))
 
 -- ---- the answer
 
@@ -189,12 +208,13 @@ module _ (t : List ℕ) (n w : ℕ) (b : List ℕ) (r : Right (tableOf true t)) 
   pub print-short : length b < n → Answer t w b b (Refused (record { number = printRoom; place = n }))
   print-short l = short-of (tableOf true t) r e refl l
 
-  text-of : (y : Result (Found Trees)) → Right y → n ≡ length (page (treesOf y) w) → tableOf true t ≡ y → n ≤ length b → (b′ : List ℕ) → Filled (page (treesOf y) w) b b′ → Answer t w b b′ (Text n)
+  text-of : (y : Result (Found Trees)) → Right y → n ≡ length (page (treesOf y) w) → tableOf true t ≡ y → n ≤ length b → (b′ : List ℕ) (k : ℕ)
+      → Filled (page (treesOf y) w) b b′ × (k ≡ pageLooked (treesOf y) w) → Answer t w b b′ (Text n k)
   unfolding printing printedInto
-  text-of (refused m c) ry f ey l b′ g = absurd ry
-  text-of (ok (found xs q)) ry f ey l b′ g =
-      let k : length (page xs w) ≤ length b = omega arith in
-      rw (ey, le-leb (length (page xs w)) (length b) k) (ap ok f, g k)
+  text-of (refused m c) ry f ey l b′ k g = absurd ry
+  text-of (ok (found xs q)) ry f ey l b′ k g =
+      let h : length (page xs w) ≤ length b = omega arith in
+      rw (ey, le-leb (length (page xs w)) (length b) h) (ap (λ (j : ℕ). ok (text j k)) f ∙ ap (λ (j : ℕ). ok (text (length (page xs w)) j)) (g .1), g .0 h)
 
-  pub print-text : n ≤ length b → (b′ : List ℕ) → Filled (page (treesOf (tableOf true t)) w) b b′ → Answer t w b b′ (Text n)
-  print-text l b′ g = text-of (tableOf true t) r e refl l b′ g
+  pub print-text : n ≤ length b → (b′ : List ℕ) (k : ℕ) → Filled (page (treesOf (tableOf true t)) w) b b′ × (k ≡ pageLooked (treesOf (tableOf true t)) w) → Answer t w b b′ (Text n k)
+  print-text l b′ k g = text-of (tableOf true t) r e refl l b′ k g

@@ -1,4 +1,5 @@
 pub mod Layout
+pub mod Looking
 pub mod Printing
 pub mod PrivateTrees
 pub mod Fitting

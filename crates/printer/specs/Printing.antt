@@ -10,16 +10,21 @@ use Rattle.lists.specs.Over.{fitted}
 use Rattle.table.specs.Trees.{Trees}
 use Rattle.table.specs.Decoding.{Found, found, tableOf}
 use Rattle.printer.specs.Layout.{page}
+use Rattle.printer.specs.Looking.{pageLooked}
 use Rattle.printer.specs.declared.Printed.{Printed}
 use Rattle.printer.specs.declared.Printed.the-variants as code
 
--- 18 last, with the bytes needed
-abbrev pub roomed : List ℕ → ℕ → Result ℕ
-roomed o k = cond (leb (length o) k) (ok (length o)) (refused printRoom (length o))
+-- a text's length, and the records that the fits test looked at (document 02, 3/12)
+pub data Text : Type 0 where
+  text : ℕ → ℕ → Text
 
--- the length of the text, or a refusal's number and place
-abbrev pub answered : Result (Found Trees) → ℕ → ℕ → Result ℕ
-answered (ok (found xs q)) w k = roomed (page xs w) k
+-- 18 last, with the bytes needed
+abbrev pub roomed : List ℕ → ℕ → ℕ → Result Text
+roomed o n k = cond (leb (length o) k) (ok (text (length o) n)) (refused printRoom (length o))
+
+-- what is told of the text, or a refusal's number and place
+abbrev pub answered : Result (Found Trees) → ℕ → ℕ → Result Text
+answered (ok (found xs q)) w k = roomed (page xs w) (pageLooked xs w) k
 answered (refused n a) w k = refused n a
 
 -- no refusal changes a byte, and bytes after the text stay
@@ -28,13 +33,13 @@ leaves (ok (found xs q)) w b = fitted (page xs w) b
 leaves (refused n a) w b = b
 
 -- printing a table at a width into a buffer of k bytes; and what the buffer b then holds
-unfoldable pub printing : List ℕ → ℕ → ℕ → Result ℕ
+unfoldable pub printing : List ℕ → ℕ → ℕ → Result Text
 printing t w k = answered (tableOf true t) w k
 
 unfoldable pub printedInto : List ℕ → ℕ → List ℕ → List ℕ
 printedInto t w b = leaves (tableOf true t) w b
 
 -- document 01's number and values for each case of the answer's enum
-abbrev pub printOf : Printed → Result ℕ
-printOf (code.Text n) = ok n
+abbrev pub printOf : Printed → Result Text
+printOf (code.Text n k) = ok (text n k)
 printOf (code.Refused r) = refusedBy r

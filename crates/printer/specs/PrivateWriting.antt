@@ -11,6 +11,7 @@ use Rattle.wide.specs.Text.{integerText}
 use Rattle.table.specs.Trees.{Tree, Trees, symbol, integer, binding, list, none, more}
 use Rattle.table.specs.Decoding.{Found, treeAt}
 use Rattle.printer.specs.Layout.{Wrap, bytes, nl, named, lay}
+use Rattle.printer.specs.Looking.{looked}
 use Rattle.printer.specs.PrivateTrees.{Right, treeOf, nextOf}
 
 -- the text of the tree that was found was put: the place past the tree, and the bytes that it takes
@@ -36,6 +37,10 @@ closing empty i = cond empty [] (bytes (nl i)) ++ (41 ∷ [])
 -- a tree as it is laid where lists are tested
 abbrev pub laid : ℕ → ℕ → ℕ → Tree → List ℕ
 laid w i c x = bytes (lay x Wrap w i c)
+
+-- the records that the fits test looks at for it
+abbrev pub seen : ℕ → ℕ → ℕ → Tree → ℕ
+seen w i c x = looked x Wrap w i c
 
 -- where a tree may be laid: in a checked table, and the numbers are small
 abbrev pub Ready : List ℕ → ℕ → ℕ → ℕ → ℕ → ℕ → Type 0

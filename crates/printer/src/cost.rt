@@ -4,6 +4,12 @@ ghost use mathlib.Core.Path.{_≡_};
 ghost use Rattle.printer.specs.Layout.{breakColumn, fitsIn};
 ghost use Rattle.printer.specs.Fitting.{entryAt, fitsAt};
 
+// Whether a tree fits, and the records that were looked at for it.
+pub struct Tested {
+    pub fits: bool,
+    pub looked: usize,
+}
+
 pub enum Entry {
     // A record's cost, its length, and the trees that come due with it.
     Is(usize, usize, usize),
@@ -50,24 +56,32 @@ pub fn fits_in(width: usize, column: usize, cost: usize) -> bool
 }
 
 // Whether the tree at `at` fits: its records are walked with a count of the trees still due, from its column up to the first that reaches past the width.
-pub fn fits(t: &[u8], at: usize, width: u32, column: usize) -> bool
+pub fn fits(t: &[u8], at: usize, width: u32, column: usize) -> Tested
     ensures { λ r. ⌜ r ≡ fitsAt (now (t .entry)) at width column ⌝ }
 {
     let line = width as usize;
     let mut reach = column;
     let mut p = at;
     let mut due = 1;
+    let mut looked = 0;
     while (reach <= line) & (0 < due) {
         match entry_at(t, p) {
             Entry::Bad => {
-                return false;
+                return Tested {
+                    fits: false,
+                    looked,
+                };
             }
             Entry::Is(cost, size, more) => {
                 reach = reach + cost;
                 p = p + size;
                 due = due - 1 + more;
+                looked += 1;
             }
         }
     }
-    reach <= line
+    Tested {
+        fits: reach <= line,
+        looked,
+    }
 }

@@ -6,7 +6,6 @@ mod gaps;
 mod measure;
 mod room;
 
-use flat::Run;
 use measure::Measured;
 use refusals::Refusal;
 use table::Record;
@@ -18,15 +17,25 @@ ghost use lib.ListN.{length};
 ghost use Rattle.refusals.specs.Numbers.{tableLimit, depthLimit};
 ghost use Rattle.table.specs.Decoding.{treeAt, tableOf};
 ghost use Rattle.printer.specs.Layout.{page};
+ghost use Rattle.printer.specs.Looking.{pageLooked};
 ghost use Rattle.printer.specs.Printing.{printing, printedInto, printOf};
-ghost use Rattle.printer.specs.PrivateTrees.{Right, treesOf};
-ghost use Rattle.lists.specs.Rooms.{Puts};
-ghost use Rattle.printer.specs.PrivateWriting.{Written, laid, Ready, framed};
+ghost use Rattle.printer.specs.PrivateTrees.{Right, treeOf, treesOf};
+ghost use Rattle.lists.specs.Rooms.{Filled};
+ghost use Rattle.printer.specs.PrivateWriting.{Written, laid, seen, Ready, framed};
 
 pub enum Printed {
-    // The bytes written.
-    Text(usize),
+    // The bytes written, and the records that the fits test looked at.
+    Text(usize, usize),
     Refused(Refusal),
+}
+
+struct Laid {
+    // The place past the tree.
+    next: usize,
+    // The bytes that it takes.
+    len: usize,
+    // The records that the fits test looked at.
+    looked: usize,
 }
 
 // The tree at `at` of a checked table. A list that fits is on a single line, with all inside it; any other has its items tested in turn.
@@ -38,25 +47,32 @@ fn print_wrapped(
     indent: usize,
     column: usize,
     out: &mut [u8],
-) -> Run
+) -> Laid
     requires { ⌜ Ready (now t) depth at width indent column ⌝ }
-    ensures { λ r. ⌜ Written (laid width indent column) (treeAt (now (t .entry)) true depth at) (r .next) (r .len) (now (out .entry)) (now (out .exit)) ⌝ }
+    ensures { λ r. ⌜ Written (laid width indent column) (treeAt (now (t .entry)) true depth at) (r .next) (r .len) (now (out .entry)) (now (out .exit))
+        × (r .looked ≡ seen width indent column (treeOf (treeAt (now (t .entry)) true depth at))) ⌝ }
 {
     let node = table::record_at(t, at);
     match node {
-        Record::Bad(_) => Run { next: at, len: 0 },
+        Record::Bad(_) => Laid {
+            next: at,
+            len: 0,
+            looked: 0,
+        },
         Record::Symbol(len) => {
             let n = atoms::put_symbol(t, at, len, out);
-            Run {
+            Laid {
                 next: at + len,
                 len: n,
+                looked: 0,
             }
         }
         Record::Integer => {
             let n = atoms::put_integer(t, at, out);
-            Run {
+            Laid {
                 next: at + table::INTEGER_LEN,
                 len: n,
+                looked: 0,
             }
         }
         Record::Binding(len) => {
@@ -71,17 +87,25 @@ fn print_wrapped(
                 column + k,
                 &mut out[rest..],
             );
-            Run {
+            Laid {
                 next: tree.next,
                 len: k + tree.len,
+                looked: tree.looked,
             }
         }
         Record::List(n) => {
-            if cost::fits(t, at, width, column) {
-                return flat::print_flat(t, at, depth, out);
+            let test = cost::fits(t, at, width, column);
+            if test.fits {
+                let line = flat::print_flat(t, at, depth, out);
+                return Laid {
+                    next: line.next,
+                    len: line.len,
+                    looked: test.looked,
+                };
             }
             let mut w = room::put_byte(b'(', out);
             let mut p = at + table::LIST_LEN;
+            let mut looked = test.looked;
             let mut i = 0;
             while i < n {
                 let from = lists::least(w, out.len());
@@ -98,22 +122,25 @@ fn print_wrapped(
                 );
                 w = k + item.len;
                 p = item.next;
+                looked = looked + item.looked;
                 i += 1;
             }
             let rest = lists::least(w, out.len());
             let end = gaps::put_close(n == 0, indent, &mut out[rest..]);
-            Run {
+            Laid {
                 next: p,
                 len: w + end,
+                looked,
             }
         }
     }
 }
 
 // A tree and its LF, and the LF between it and one before it.
-fn print_node(t: &[u8], at: usize, width: u32, out: &mut [u8]) -> Run
+fn print_node(t: &[u8], at: usize, width: u32, out: &mut [u8]) -> Laid
     requires { ⌜ (at ≤ length (now t)) × (length (now t) ≤ tableLimit) × Right (treeAt (now t) true depthLimit at) ⌝ }
-    ensures { λ r. ⌜ Written (framed (ltb 0 at) width) (treeAt (now (t .entry)) true depthLimit at) (r .next) (r .len) (now (out .entry)) (now (out .exit)) ⌝ }
+    ensures { λ r. ⌜ Written (framed (ltb 0 at) width) (treeAt (now (t .entry)) true depthLimit at) (r .next) (r .len) (now (out .entry)) (now (out .exit))
+        × (r .looked ≡ seen width 0 0 (treeOf (treeAt (now (t .entry)) true depthLimit at))) ⌝ }
 {
     let w = room::put_unless(at == 0, b'\n', out);
     let rest = lists::least(w, out.len());
@@ -121,26 +148,30 @@ fn print_node(t: &[u8], at: usize, width: u32, out: &mut [u8]) -> Run
     let end = w + tree.len;
     let last = lists::least(end, out.len());
     let k = room::put_byte(b'\n', &mut out[last..]);
-    Run {
+    Laid {
         next: tree.next,
         len: end + k,
+        looked: tree.looked,
     }
 }
 
-// All trees of a checked table, each in the rest of the room from its first free byte; the bytes that they take.
+// All trees of a checked table, each in the rest of the room from its first free byte; the records that the fits test looked at.
 fn print_trees(t: &[u8], width: u32, out: &mut [u8]) -> usize
     requires { ⌜ Right (tableOf true (now t)) ⌝ }
-    ensures { λ r. ⌜ Puts (page (treesOf (tableOf true (now (t .entry)))) width) r (now (out .entry)) (now (out .exit)) ⌝ }
+    ensures { λ r. ⌜ Filled (page (treesOf (tableOf true (now (t .entry)))) width) (now (out .entry)) (now (out .exit))
+        × (r ≡ pageLooked (treesOf (tableOf true (now (t .entry)))) width) ⌝ }
 {
     let mut p = 0;
     let mut w = 0;
+    let mut looked = 0;
     while p < t.len() {
         let rest = lists::least(w, out.len());
         let line = print_node(t, p, width, &mut out[rest..]);
         w = w + line.len;
         p = line.next;
+        looked = looked + line.looked;
     }
-    w
+    looked
 }
 
 // Prints the trees of a table at a width into the front of `out`; a refusal leaves `out` as it was.
@@ -157,8 +188,8 @@ pub fn print(table: &[u8], width: u32, out: &mut [u8]) -> Printed
                     place: n,
                 });
             }
-            print_trees(table, width, out);
-            Printed::Text(n)
+            let looked = print_trees(table, width, out);
+            Printed::Text(n, looked)
         }
     }
 }

@@ -91,6 +91,7 @@ fn answer(
         b'F' | b'f' | b'C' | b'c' => feeding::pieces(page, n, style(op), src, f.a, f.b),
         b'R' => tables::read(page, n, src, table, f.a),
         b'P' => tables::print(page, n, src, f.a, text, f.b),
+        b'Q' => tables::print_counted(page, n, src, f.a, text, f.b),
         b'W' => tables::rewrite(page, n, src, f.a, table, text),
         b'K' => tables::check(page, n, src, f.a == 1),
         b'V' | b'v' => windowed::print(page, n, job(f), src, table),

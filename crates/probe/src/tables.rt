@@ -1,4 +1,4 @@
-// The ops R, P, W and K: a source is read into a room, a table printed into one, both in turn, and a table checked.
+// The ops R, P, Q, W and K: a source is read into a room, a table printed into one, both in turn, and a table checked.
 use crate::lines;
 use printer::Printed;
 use reader::Readout;
@@ -63,6 +63,13 @@ pub fn shown(page: &mut [u8; 65536], n: usize, word: &[u8], s: &[u8]) -> usize {
     lines::line_end(page, m)
 }
 
+// The records that the fits test looked at.
+pub fn looked(page: &mut [u8; 65536], n: usize, count: usize) -> usize {
+    let m = lines::bytes(page, n, b"looked ");
+    let m = lines::number(page, m, count);
+    lines::line_end(page, m)
+}
+
 // The front of a room was written, and its rest was not to be touched.
 fn written(page: &mut [u8; 65536], n: usize, word: &[u8], room: &[u8], len: usize) -> usize {
     let k = lines::within(len, room);
@@ -93,16 +100,35 @@ pub fn width_of(a: usize) -> u32 {
     4294967295
 }
 
+// A text in the front of a room; the count is shown where it is asked for.
+fn printed(
+    page: &mut [u8; 65536],
+    n: usize,
+    counted: bool,
+    room: &[u8],
+    len: usize,
+    count: usize,
+) -> usize {
+    if counted {
+        let k = lines::within(len, room);
+        let m = shown(page, n, b"print ", &room[..k]);
+        let m = looked(page, m, count);
+        return kept(page, m, is_marked(&room[k..]));
+    }
+    written(page, n, b"print ", room, len)
+}
+
 fn print_into(
     page: &mut [u8; 65536],
     n: usize,
+    counted: bool,
     table: &[u8],
     width: usize,
     room: &mut [u8],
 ) -> usize {
     mark(room);
     match printer::print(table, width_of(width), room) {
-        Printed::Text(len) => written(page, n, b"print ", room, len),
+        Printed::Text(len, count) => printed(page, n, counted, room, len, count),
         Printed::Refused(r) => {
             let m = lines::refusal(page, n, r);
             kept(page, m, is_marked(room))
@@ -119,7 +145,21 @@ pub fn print(
     most: usize,
 ) -> usize {
     let k = lines::within(most, room);
-    print_into(page, n, table, width, &mut room[..k])
+    print_into(page, n, false, table, width, &mut room[..k])
+}
+
+// The first byte is the layout, and there is one; of no bytes the table is empty.
+pub fn print_counted(
+    page: &mut [u8; 65536],
+    n: usize,
+    src: &[u8],
+    width: usize,
+    room: &mut [u8],
+    most: usize,
+) -> usize {
+    let t = lines::within(1, src);
+    let k = lines::within(most, room);
+    print_into(page, n, true, &src[t..], width, &mut room[..k])
 }
 
 fn print_whole(
@@ -130,7 +170,7 @@ fn print_whole(
     room: &mut [u8],
 ) -> usize {
     match printer::print(table, width_of(width), room) {
-        Printed::Text(len) => {
+        Printed::Text(len, _) => {
             let k = lines::within(len, room);
             shown(page, n, b"text ", &room[..k])
         }

@@ -73,8 +73,9 @@ fn answer_lines(page: &mut [u8; 65536], n: usize, answer: Answer, room: &[u8]) -
             let m = bytes_line(page, n, room, k);
             tables::kept(page, m, is_kept_around(room, k))
         }
-        Answer::End => {
+        Answer::End(count) => {
             let m = lines::bytes(page, n, b"end\n");
+            let m = tables::looked(page, m, count);
             tables::kept(page, m, tables::is_marked(room))
         }
         Answer::Refused(r) => {
@@ -88,7 +89,7 @@ fn answer_lines(page: &mut [u8; 65536], n: usize, answer: Answer, room: &[u8]) -
 fn reported(answer: Answer) -> usize {
     match answer {
         Answer::Bytes(k) => k,
-        Answer::End => 0,
+        Answer::End(_) => 0,
         Answer::Refused(_) => 0,
     }
 }

@@ -6,6 +6,7 @@ ghost use lib.ListN.{length};
 ghost use Rattle.reader.specs.Reading.{reading, readInto, readOf};
 ghost use Rattle.printer.specs.Printing.{printing, printedInto, printOf};
 ghost use Rattle.words.specs.Words.{lengthWords};
+ghost use Rattle.tulbazhik_trees.specs.Texts.{printWords};
 
 fn put_read(x: Readout, answer: &mut [u64; 8])
     ensures { λ _. ⌜ now (answer .exit) ≡ lengthWords (readOf x) ⌝ }
@@ -17,10 +18,10 @@ fn put_read(x: Readout, answer: &mut [u64; 8])
 }
 
 fn put_print(x: Printed, answer: &mut [u64; 8])
-    ensures { λ _. ⌜ now (answer .exit) ≡ lengthWords (printOf x) ⌝ }
+    ensures { λ _. ⌜ now (answer .exit) ≡ printWords (printOf x) ⌝ }
 {
     match x {
-        Printed::Text(n) => words::put_length(n, answer),
+        Printed::Text(n, looked) => words::put_text(n, looked, answer),
         Printed::Refused(r) => words::put_refusal(r, 0, answer),
     }
 }
@@ -36,7 +37,7 @@ pub extern "C" fn tulbazhik_read(src: &[u8], table: &mut [u8], answer: &mut [u64
 // A table laid out at a width, written into the room lent.
 #[no_mangle]
 pub extern "C" fn tulbazhik_print(table: &[u8], width: u32, text: &mut [u8], answer: &mut [u64; 8])
-    ensures { λ _. ⌜ (now (answer .exit) ≡ lengthWords (printing (now (table .entry)) width (length (now (text .entry))))) × (now (text .exit) ≡ printedInto (now (table .entry)) width (now (text .entry))) ⌝ }
+    ensures { λ _. ⌜ (now (answer .exit) ≡ printWords (printing (now (table .entry)) width (length (now (text .entry))))) × (now (text .exit) ≡ printedInto (now (table .entry)) width (now (text .entry))) ⌝ }
 {
     put_print(printer::print(table, width, text), answer);
 }

@@ -2,7 +2,7 @@
 use mathlib.Core.Path.{_≡_, refl, sym, ap, _∙_}
 use mathlib.Core.Bool.{cond}
 use mathlib.Core.List.{List, [], _∷_}
-use Prim.Native.Nat.{ℕ, zero, suc, _+_, _%_, _≤_, _<_}
+use Prim.Native.Nat.{ℕ, zero, suc, _+_, _*_, _/_, _%_, _≤_, _<_}
 use native.Mathlib.Omega.{arith}
 use lib.Dec.{eqb}
 use lib.ListN.{length, length-set, getD, set}
@@ -31,7 +31,7 @@ sets-at (x ∷ xs) w i (suc k) h r =
 
 -- the items due are 32 bits, the margin and the indent a byte
 abbrev pub Fits : Cursor → Type 0
-Fits c = (c .due < 4294967296) × (c .margin < 256) × (c .indent < 256)
+Fits c = (c .due < 4294967296) × (c .margin < 256) × (c .indent < 256) × (c .looked < 4294967296)
 
 phase-back : (f : Phase) → phaseIn (phaseWord f) ≡ f
 unfolding phaseIn
@@ -45,23 +45,29 @@ phase-back Line = refl
 phase-back Between = refl
 phase-back Done = refl
 
+-- the two numbers of a word
+low-half : (d k : ℕ) → d < 4294967296 → (d + 4294967296 * k) % 4294967296 ≡ d
+low-half d k h = omega arith
+
+high-half : (d k : ℕ) → d < 4294967296 → k < 4294967296 → (d + 4294967296 * k) / 4294967296 % 4294967296 ≡ k
+high-half d k h l = omega arith
+
 pub back : (c : Cursor) (w : List ℕ) → length w ≡ 72 → Fits c → cursorIn (stored c w) ≡ c
 unfolding cursorIn stored
 back c w l f =
     let at : (k : ℕ) → k < 8 → getD (sets w 64 (cursorWords c)) (64 + k) 0 ≡ getD (cursorWords c) k 0 = λ k h. sets-at (cursorWords c) w 64 k h (omega arith) in
-    let d : c .due % 4294967296 ≡ c .due = omega arith in
     let m : c .margin % 256 ≡ c .margin = omega arith in
     let i : c .indent % 256 ≡ c .indent = omega arith in
-    rw (at 0 (omega arith), at 1 (omega arith), at 2 (omega arith), at 3 (omega arith), at 4 (omega arith), at 5 (omega arith), at 6 (omega arith), at 7 (omega arith), d, m, i, phase-back (c .phase)) refl
+    rw (at 0 (omega arith), at 1 (omega arith), at 2 (omega arith), at 3 (omega arith), at 4 (omega arith), at 5 (omega arith), at 6 (omega arith), at 7 (omega arith), low-half (c .due) (c .looked) (f .0), high-half (c .due) (c .looked) (f .0) (f .3), m, i, phase-back (c .phase)) refl
 
 -- two different answers have different words
 abbrev partIn : List ℕ → Answer
-partIn w = cond (eqb (getD w 0 0) endAnswer) (ok end) (cond (eqb (getD w 0 0) refusedAnswer) (refused (getD w 2 0) (getD w 1 0)) (ok (part (getD w 2 0))))
+partIn w = cond (eqb (getD w 0 0) endAnswer) (ok (end (getD w 6 0))) (cond (eqb (getD w 0 0) refusedAnswer) (refused (getD w 2 0) (getD w 1 0)) (ok (part (getD w 2 0))))
 
 part-back : (a : Answer) → partIn (partWords a) ≡ a
 unfolding partWords
 part-back (ok (part n)) = refl
-part-back (ok end) = refl
+part-back (ok (end k)) = refl
 part-back (refused n a) = refl
 
 pub part-same : (a b : Answer) → partWords a ≡ partWords b → a ≡ b

@@ -3,7 +3,7 @@
 use mathlib.Core.Path.{_≡_, refl, sym, ap, subst, _∙_}
 use mathlib.Core.Bool.{Bool, true, false, cond, _||_}
 use mathlib.Core.List.{List, [], _∷_, _++_}
-use Prim.Native.Nat.{ℕ, zero, suc, _+_, _-_, _≤_, _<_}
+use Prim.Native.Nat.{ℕ, zero, suc, _-_, _≤_, _<_}
 use native.Mathlib.Omega.{arith}
 use lib.Dec.{leb, eqb, ltb}
 use lib.ListN.{length, length-set, getD, set, take, replicate, getD-replicate}
@@ -20,13 +20,12 @@ use Rattle.table.specs.Records.{recordAt}
 use Rattle.table.specs.Trees.{Trees}
 use Rattle.table.specs.Decoding.{Found, found, tableOf}
 use Rattle.printer.specs.Layout.{Wrapping}
-use Rattle.printer.specs.Fitting.{fitsAt}
 use Rattle.printer.proofs.CheckedRecords.{list-small}
 use Rattle.windows.specs.declared.Phase.{Phase}
 use Rattle.windows.specs.declared.Phase.the-variants.{Fresh, Node, Sign, Gap, Back, Close, Line, Between, Done}
 use Rattle.windows.specs.declared.Cursor.{Cursor}
 use Rattle.windows.specs.declared.State.{State}
-use Rattle.windows.specs.Machine.{state, isDone, isFresh, leaves, singleMargin, modeOf, past, flat, marginFor, heldDue, heldMargin, listNext, nodeNext, gapFor, phaseNext, nextOf, freshState, startCursor}
+use Rattle.windows.specs.Machine.{state, isDone, isFresh, singleMargin, modeOf, past, testFor, marginFor, heldDue, heldMargin, listNext, nodeNext, gapFor, phaseNext, nextOf, freshState, startCursor}
 use Rattle.windows.specs.Filling.{Ran, rest, turn, run, part, Call, goOn, first, fillOf, handed, givenBy, Answer, calls}
 use Rattle.windows.proofs.Steps.{cursor}
 use Rattle.tulbazhik_windows.specs.States.{cursorWords, stored, stateWords, partWords, phaseIn, cursorIn, unpackOf, callsThrough, ThroughWords}
@@ -78,13 +77,13 @@ record-small t h p = by (recordAt t p) refl
 -- ---- the machine
 
 module _ (t : List ℕ) (w : ℕ) (bytes : Bytes t) where
-  margin-small : (c : Cursor) → Good c → marginFor t w c < 256
-  margin-small c g = pick (λ (m : ℕ). m < 256) (flat (modeOf (c .margin)) (fitsAt t (c .at) w (leaves w (c .left)))) (λ _. omega arith) (λ _. g .1 .2)
+  margin-small : (c : Cursor) → Good c → marginFor (testFor t w c (modeOf (c .margin)) .fits) (c .indent) < 256
+  margin-small c g = pick (λ (m : ℕ). m < 256) (testFor t w c (modeOf (c .margin)) .fits) (λ _. omega arith) (λ _. g .1 .2)
 
   list-twins : (c : Cursor) (k k′ : List ℕ) (n : ℕ) → n < 4294967296 → Low k k′ → Good c → Twins (listNext t w (state c k) n) (listNext t w (state c k′) n)
   list-twins c k k′ n h l g =
       pick₂ Twins (ltb (c .depth) depthLimit)
-      (λ e. let d : c .depth < 64 = ltb-true (c .depth) depthLimit e in (refl, low-set k k′ (c .depth) _ d l, (omega (arith, d), (omega arith, margin-small c g, g .1 .2))))
+      (λ e. let d : c .depth < 64 = ltb-true (c .depth) depthLimit e in (refl, low-set k k′ (c .depth) _ d l, (omega (arith, d), (omega arith, margin-small c g, g .1 .2, omega arith))))
       (λ _. (refl, l, g))
 
   node-twins : (c : Cursor) (k k′ : List ℕ) (x : Record) → Small x → Low k k′ → Good c → Twins (nodeNext t w (state c k) x) (nodeNext t w (state c k′) x)
@@ -97,12 +96,12 @@ module _ (t : List ℕ) (w : ℕ) (bytes : Bytes t) where
   gap-good : (c : Cursor) → Good c → Good (gapFor c w (modeOf (c .margin)))
   gap-good c g =
       pick (λ (m : Wrapping). Good (gapFor c w m)) (eqb (c .margin) singleMargin)
-      (λ _. (g .0, (omega (arith, g .1 .0), g .1 .1, g .1 .2)))
-      (λ e. let n = eqb-false (c .margin) singleMargin e in (g .0, (omega (arith, g .1 .0), g .1 .1, omega (arith, g .1 .1, n))))
+      (λ _. (g .0, (omega (arith, g .1 .0), g .1 .1, g .1 .2, g .1 .3)))
+      (λ e. let n = eqb-false (c .margin) singleMargin e in (g .0, (omega (arith, g .1 .0), g .1 .1, omega (arith, g .1 .1, n), g .1 .3)))
 
   close-twins : (c : Cursor) (k k′ : List ℕ) → Low k k′ → Good c → Twins (phaseNext t w (state c k) Close) (phaseNext t w (state c k′) Close)
   close-twins c k k′ l g =
-      (ap (λ (x : ℕ). past (cursor Close (c .at) (c .depth - 1) (heldDue x) (heldMargin x) (c .left) (c .indent)) (c .at) (c .left - 1)) (sym (l .2 (c .depth - 1) (omega (arith, g .0)))), l, (omega (arith, g .0), (omega arith, omega arith, g .1 .2)))
+      (ap (λ (x : ℕ). past (cursor Close (c .at) (c .depth - 1) (heldDue x) (heldMargin x) (c .left) (c .indent) (c .looked)) (c .at) (c .left - 1)) (sym (l .2 (c .depth - 1) (omega (arith, g .0)))), l, (omega (arith, g .0), (omega arith, omega arith, g .1 .2, g .1 .3)))
 
   phase-twins : (c : Cursor) (k k′ : List ℕ) (f : Phase) → Low k k′ → Good c → Twins (phaseNext t w (state c k) f) (phaseNext t w (state c k′) f)
   phase-twins c k k′ Fresh l g = (refl, l, g)
@@ -112,7 +111,7 @@ module _ (t : List ℕ) (w : ℕ) (bytes : Bytes t) where
   phase-twins c k k′ Back l g = (refl, l, g)
   phase-twins c k k′ Close l g = close-twins c k k′ l g
   phase-twins c k k′ Line l g = (refl, l, g)
-  phase-twins c k k′ Between l g = (refl, l, (g .0, (g .1 .0, g .1 .1, omega arith)))
+  phase-twins c k k′ Between l g = (refl, l, (g .0, (g .1 .0, g .1 .1, omega arith, g .1 .3)))
   phase-twins c k k′ Done l g = (refl, l, g)
 
   -- what holds of two states with one cursor holds of twins
@@ -170,7 +169,7 @@ module _ (t : List ℕ) (w : ℕ) (bytes : Bytes t) where
 
   module _ (b k ws : List ℕ) (c : Cursor) (e : cursorIn ws ≡ c) (l : Low k ws) (g : Good c) where
     first-twins : (y : Result (Found Trees)) → Ends (first t w (state c k) b y) (first t w (state c ws) b y)
-    first-twins (ok (found xs q)) = go-twins b (state c k) (state c ws) (refl, l, g) (startCursor (length t) w) k ws l (omega arith, (omega arith, omega arith, omega arith))
+    first-twins (ok (found xs q)) = go-twins b (state c k) (state c ws) (refl, l, g) (startCursor (length t) w) k ws l (omega arith, (omega arith, omega arith, omega arith, omega arith))
     first-twins (refused n a) = (refl, refl, (e, l, g))
 
     fill-twins : Ends (fillOf t w (state c k) b) (fillOf t w (state c ws) b)
@@ -198,7 +197,7 @@ module _ (t : List ℕ) (w : ℕ) (bytes : Bytes t) where
 
   fresh-twins : Twins freshState (unpackOf (replicate 72 0))
   unfolding cursorIn phaseIn
-  fresh-twins = (refl, (refl, refl, λ i h. zeros i h), (omega arith, (omega arith, omega arith, omega arith)))
+  fresh-twins = (refl, (refl, refl, λ i h. zeros i h), (omega arith, (omega arith, omega arith, omega arith, omega arith)))
     where
       zeros : (i : ℕ) → i < 64 → _≡_ {A = ℕ} (getD (replicate 64 0) i 0) (getD (replicate 72 0) i 0)
       zeros i h = getD-replicate 64 i 0 0 h ∙ sym (getD-replicate 72 i 0 0 (omega arith))

@@ -1,5 +1,5 @@
 -- The state of a windowed print as 72 words, for callers in C: the stack's 64, then the cursor's eight. Zeros are the fresh state. And a call's answer as eight words.
-use Prim.Native.Nat.{ℕ, _%_}
+use Prim.Native.Nat.{ℕ, _+_, _*_, _/_, _%_}
 use mathlib.Core.Path.{_≡_}
 use mathlib.Core.Bool.{cond}
 use mathlib.Core.List.{List, [], _∷_, _++_}
@@ -8,7 +8,7 @@ use lib.ListN.{getD, replicate}
 use lib.Seq.{sets}
 use Rattle.refusals.specs.Result.{ok, refused}
 use Rattle.wide.specs.Bytes.{Bytes}
-use Rattle.words.specs.Words.{doneWords, endWords, refusedWords}
+use Rattle.words.specs.Words.{doneWords, endedWords, refusedWords}
 use Rattle.windows.specs.declared.Phase.{Phase}
 use Rattle.windows.specs.declared.Phase.the-variants.{Fresh, Node, Sign, Gap, Back, Close, Line, Between, Done}
 use Rattle.windows.specs.declared.Cursor.{Cursor}
@@ -27,9 +27,9 @@ phaseWord Line = 6
 phaseWord Between = 7
 phaseWord Done = 8
 
--- the cursor's words, over those from 64 on
+-- the cursor's words, over those from 64 on; the items due and the records looked at share one
 abbrev pub cursorWords : Cursor → List ℕ
-cursorWords c = phaseWord (c .phase) ∷ c .at ∷ c .depth ∷ c .due ∷ c .margin ∷ c .left ∷ c .indent ∷ c .given ∷ []
+cursorWords c = phaseWord (c .phase) ∷ c .at ∷ c .depth ∷ (c .due + 4294967296 * c .looked) ∷ c .margin ∷ c .left ∷ c .indent ∷ c .given ∷ []
 
 unfoldable pub stored : Cursor → List ℕ → List ℕ
 stored c w = sets w 64 (cursorWords c)
@@ -45,7 +45,7 @@ stateWords c = kept (c .answer) (c .state)
 -- of its answer
 unfoldable pub partWords : Answer → List ℕ
 partWords (ok (part n)) = doneWords n
-partWords (ok end) = endWords 0
+partWords (ok (end k)) = endedWords k
 partWords (refused n a) = refusedWords n a 0
 
 abbrev pub callWords : Call → List ℕ
@@ -70,6 +70,7 @@ cursorIn w =
       at = getD w 65 0;
       depth = getD w 66 0;
       due = getD w 67 0 % 4294967296;
+      looked = getD w 67 0 / 4294967296 % 4294967296;
       margin = getD w 68 0 % 256;
       left = getD w 69 0;
       indent = getD w 70 0 % 256;

@@ -18,9 +18,9 @@ fn put_filled(m: Moved, state: &mut [u64; 72], answer: &mut [u64; 8])
             states::store(c, state);
             words::put_length(n, answer);
         }
-        Answer::End => {
+        Answer::End(looked) => {
             states::store(c, state);
-            *answer = [words::END, 0, 0, 0, 0, 0, 0, 0];
+            *answer = [words::END, 0, 0, 0, 0, 0, looked as u64, 0];
         }
         Answer::Refused(r) => words::put_refusal(r, 0, answer),
     }

@@ -28,7 +28,7 @@ pub fn store(c: Cursor, state: &mut [u64; 72])
     state[64] = phase_word(f);
     state[65] = c.at as u64;
     state[66] = c.depth as u64;
-    state[67] = c.due as u64;
+    state[67] = c.due as u64 + 4294967296 * (c.looked as u64);
     state[68] = c.margin as u64;
     state[69] = c.left as u64;
     state[70] = c.indent as u64;
@@ -60,6 +60,7 @@ pub fn cursor_in(w: &[u64; 72]) -> Cursor
         at: w[65] as usize,
         depth: w[66] as usize,
         due: (w[67] % 4294967296) as u32,
+        looked: (w[67] / 4294967296 % 4294967296) as u32,
         margin: (w[68] % 256) as u8,
         left: w[69] as usize,
         indent: (w[70] % 256) as u8,

@@ -38,7 +38,7 @@ module _ (t : List ℕ) (w : ℕ) (s : State) (b : List ℕ) where
   fill-fresh y e f = ap (λ (z : Bool). cond z (first t w s b (tableOf true t)) (goOn t w s s b)) e ∙ ap (first t w s b) f
 
   -- what holds of a call that answers the end, of one with no room, of one that runs, and of one that refuses, holds of any
-  module _ (P : Call → Type 0) (at-end : (at : State) → isDone (at .cursor .phase) ≡ true → P (call (ok end) at b)) (empty : length b ≡ 0 → P (call (ok (part 0)) s b))
+  module _ (P : Call → Type 0) (at-end : (at : State) → isDone (at .cursor .phase) ≡ true → P (call (ok (end (at .cursor .looked))) at b)) (empty : length b ≡ 0 → P (call (ok (part 0)) s b))
       (runs : (at : State) → 0 < length b → P (filled (run (length b) t w at (length b)) b)) where
     go-cases : (at : State) → P (goOn t w s at b)
     go-cases at =
@@ -94,18 +94,23 @@ no-room t w s b n h =
     fill-cases t w s b (λ (c : Call). c .answer ≡ ok (part n) → c ≡ call (ok (part 0)) s b) (λ at e f. let z : _≡_ {A = ℕ} 0 1 = cc in absurd (omega arith)) (λ e f. refl)
     (λ at l f. absurd (omega arith)) (λ m a e g f. let z : _≡_ {A = ℕ} 0 1 = cc in absurd (omega arith))
 
-fill-done : (t : List ℕ) (w : ℕ) (s : State) (b : List ℕ) → fillOf t w s b .answer ≡ ok end → isDone (fillOf t w s b .state .cursor .phase) ≡ true
-fill-done t w s b =
-    fill-cases t w s b (λ (c : Call). c .answer ≡ ok end → isDone (c .state .cursor .phase) ≡ true) (λ at e f. e)
+-- a state whose end was answered with k
+abbrev Over : ℕ → State → Type 0
+Over k s = (isDone (s .cursor .phase) ≡ true) × (s .cursor .looked ≡ k)
+
+fill-over : (t : List ℕ) (w : ℕ) (s : State) (b : List ℕ) (k : ℕ) → fillOf t w s b .answer ≡ ok (end k) → Over k (fillOf t w s b .state)
+fill-over t w s b k =
+    fill-cases t w s b (λ (c : Call). c .answer ≡ ok (end k) → Over k (c .state)) (λ at e f. (e, cc))
     (λ e f. let z : _≡_ {A = ℕ} 0 1 = cc in absurd (omega arith)) (λ at l f. let z : _≡_ {A = ℕ} 0 1 = cc in absurd (omega arith))
     (λ n a e g f. let z : _≡_ {A = ℕ} 0 1 = cc in absurd (omega arith))
 
 pub end-stays : EndStays
-end-stays t w s b b′ h =
+end-stays t w s b b′ k h =
     let s′ : State = fillOf t w s b .state in
-    let e = fill-done t w s b h in
-    fill-begun t w s′ b′ (done-not-fresh (s′ .cursor .phase) e)
-    ∙ ap (λ (z : Bool). cond z (call (ok end) s′ b′) (cond (eqb (length b′) 0) (call (ok (part 0)) s′ b′) (filled (run (length b′) t w s′ (length b′)) b′))) e
+    let e = fill-over t w s b k h in
+    fill-begun t w s′ b′ (done-not-fresh (s′ .cursor .phase) (e .0))
+    ∙ ap (λ (z : Bool). cond z (call (ok (end (s′ .cursor .looked))) s′ b′) (cond (eqb (length b′) 0) (call (ok (part 0)) s′ b′) (filled (run (length b′) t w s′ (length b′)) b′))) (e .0)
+    ∙ ap (λ (j : ℕ). call (ok (end j)) s′ b′) (e .1)
 
 pub refused-at-first : RefusedAtFirst
 refused-at-first t w s b n a =

@@ -1,10 +1,11 @@
--- For a good table the windows, whatever their lengths, joined are the front of its text, all of it once they suffice, and then the end is answered.
--- Assumes that the table's elements are bytes.
+-- For a good table the windows, whatever their lengths, joined are the front of its text, all of it once they suffice, and then the end is answered, with the records
+-- that the fits test looked at. Assumes that the table's elements are bytes.
 use mathlib.Core.Path.{_≡_, refl, ap, sym, subst, subst⁻¹, _∙_}
 use mathlib.Core.Bool.{Bool, true, false, cond}
 use mathlib.Core.List.{List, [], _∷_, _++_, append-nil}
-use Prim.Native.Nat.{ℕ, zero, suc, _+_, _-_, _≤_, _<_}
+use Prim.Native.Nat.{ℕ, zero, suc, _+_, _-_, _%_, _^_, _≤_, _<_}
 use native.Mathlib.Omega.{arith}
+use native.Mathlib.Nat.{mod-eq-of-lt}
 use lib.ListN.{length, take, drop, length-append, length-drop, drop-of-length-le}
 use lib.Seq.{drop-drop, take-nil, drop-nil, take-append-le, drop-append-le, take-append-add, drop-append-add, take-all, take-at, take-add, length-take-le}
 use lib.Dec.{leb, eqb, lit≤}
@@ -19,30 +20,36 @@ use Rattle.table.specs.Records.{recordAt}
 use Rattle.table.specs.Decoding.{found, tableOf}
 use Rattle.table.proofs.Whole.{sound}
 use Rattle.printer.specs.Layout.{Wrapping, Wrap, SingleLine, page}
-use Rattle.windows.specs.Machine.{Phase, Fresh, Node, Sign, Gap, Back, Close, Line, Between, Done, Cursor, State, isDone, isFresh, modeOf, phasePut, putOf, nodeNext, regiven, gapFor, phaseNext, nextOf, freshState, started}
+use Rattle.printer.specs.Looking.{pageLooked}
+use Rattle.printer.proofs.LookedBound.{looked-small}
+use Rattle.windows.specs.Machine.{Phase, Fresh, Node, Sign, Gap, Back, Close, Line, Between, Done, Cursor, State, isDone, isFresh, modeOf, phasePut, putOf, testFor, nodeNext, regiven, gapFor, phaseNext, nextOf, freshState, started}
 use Rattle.windows.specs.Filling.{Ran, ran, rest, more-given, turn, before, run, part, end, Call, call, filled, goOn, fillOf, handed, answerFor, calls, room}
 use Rattle.windows.specs.Joined.{Begins, WindowsJoined, WindowsEnd, WindowsRefused}
 use Rattle.windows.proofs.AnyCall.{done-not-fresh, fill-begun, fill-fresh, end-stays}
 use Rattle.windows.proofs.Prints.{Prints, over as ended, puts, page-puts}
 
-module _ (t : List ℕ) (w : ℕ) where
-  -- from s on, whose next put may be given in part, o is what is left
+module _ (t : List ℕ) (w total : ℕ) where
+  -- from s on, whose next put may be given in part, o is what is left; at its end `total` records are looked at
   pub data Rests : State → List ℕ → Type 0 where
-    none-left : (s : State) (o : List ℕ) → isDone (s .cursor .phase) ≡ true → o ≡ [] → Rests s o
+    none-left : (s : State) (o : List ℕ) → isDone (s .cursor .phase) ≡ true → s .cursor .looked ≡ total → o ≡ [] → Rests s o
     some-left : (s : State) (o r : List ℕ) → isDone (s .cursor .phase) ≡ false → isFresh (s .cursor .phase) ≡ false → s .cursor .given < length (putOf t (s .cursor))
-        → o ≡ rest t s ++ r → Prints t w (nextOf t w s) r → Rests s o
+        → o ≡ rest t s ++ r → Prints t w total (nextOf t w s) r → Rests s o
 
-  rests : (s : State) (o : List ℕ) → Prints t w s o → Rests s o
-  rests s o (ended _ _ e f) = none-left s o e f
+  rests : (s : State) (o : List ℕ) → Prints t w total s o → Rests s o
+  rests s o (ended _ _ e u f) = none-left s o e u f
   rests s o (puts _ _ r e b l f h) =
       some-left s o r e (b .0) (subst⁻¹ (λ (j : ℕ). j < length (putOf t (s .cursor))) (b .1) l) (f ∙ ap (λ (j : ℕ). drop j (putOf t (s .cursor)) ++ r) (sym (b .1))) h
 
   -- what is given of the next put plays no part in what comes after it
+  test-given : (c : Cursor) (n : ℕ) (m : Wrapping) → testFor t w (regiven c n) m ≡ testFor t w c m
+  test-given c n Wrap = refl
+  test-given c n SingleLine = refl
+
   node-given : (s : State) (n : ℕ) (x : Record) → nodeNext t w (more-given s n) x ≡ nodeNext t w s x
   node-given s n (Symbol len) = refl
   node-given s n Integer = refl
   node-given s n (Binding len) = refl
-  node-given s n (ListOf m) = refl
+  node-given s n (ListOf m) = rw (test-given (s .cursor) (s .cursor .given + n) (modeOf (s .cursor .margin))) refl
   node-given s n (Bad m) = refl
 
   gap-given : (c : Cursor) (n : ℕ) (m : Wrapping) → gapFor (regiven c n) w m ≡ gapFor c w m
@@ -94,8 +101,8 @@ module _ (t : List ℕ) (w : ℕ) where
   run-gives : (k n : ℕ) (s : State) (o : List ℕ) → Rests s o → n ≤ k → Gives (run k t w s n) n o
   unfolding run
   run-gives zero n s o h l = gives-none s o n (omega arith) h
-  run-gives (suc k) n s o (none-left _ _ e f) l =
-      rw e (record { out = sym (ap (take n) f ∙ take-nil n); left = subst⁻¹ (Rests s) (ap (drop n) f ∙ drop-nil n) (none-left s [] e refl) })
+  run-gives (suc k) n s o (none-left _ _ e u f) l =
+      rw e (record { out = sym (ap (take n) f ∙ take-nil n); left = subst⁻¹ (Rests s) (ap (drop n) f ∙ drop-nil n) (none-left s [] e u refl) })
   run-gives (suc k) n s o (some-left _ _ r e b lt f h) l = rw e (by (run-gives k) (eqb n 0) refl)
     where
       whole : Rests s o
@@ -124,7 +131,7 @@ module _ (t : List ℕ) (w : ℕ) where
           let z : n - length (take n (rest t s)) ≡ 0 = rw (length-take-le n (rest t s) (omega (arith, lt′))) (omega arith) in
           let re : drop n (rest t s) ≡ rest t s2 = drop-drop n (s .cursor .given) (putOf t (s .cursor)) ∙ ap (drop g2) (sym (put-given (s .cursor) g2)) in
           let h2 : Rests s2 o2 = some-left s2 o2 r e b (rw (put-given (s .cursor) g2) (omega (arith, size, lt′))) (ap (λ (y : List ℕ). y ++ r) re)
-          (subst⁻¹ (λ (y : State). Prints t w y r) (next-given s n e b) h) in
+          (subst⁻¹ (λ (y : State). Prints t w total y r) (next-given s n e b) h) in
           let ih = go 0 s2 o2 h2 (omega arith) in
           rw z (record {
             out = ap (λ (y : List ℕ). take n (rest t s) ++ y) (ih .out) ∙ append-nil (take n (rest t s)) ∙ sym (ap (take n) f ∙ take-append-le n (rest t s) r (omega (arith, lt′)));
@@ -135,7 +142,7 @@ module _ (t : List ℕ) (w : ℕ) where
       by go true ez = gives-none s o n (eqb-true n 0 ez) whole
       by go false ez = let f0 = eqb-false n 0 ez in turned go (leb (length (rest t s)) n) refl (omega (arith, f0))
 
-  answer-some : (o : List ℕ) (n : ℕ) → 0 < length o → answerFor o n ≡ ok (part (length (take n o)))
+  answer-some : (o : List ℕ) (n : ℕ) → 0 < length o → answerFor o total n ≡ ok (part (length (take n o)))
   answer-some [] n h = absurd (omega arith)
   answer-some (b ∷ o) n h = refl
 
@@ -146,16 +153,16 @@ module _ (t : List ℕ) (w : ℕ) where
       begun : (s : State) (o : List ℕ) → Rests s o → Reached s o
 
     pub record Told (c : Call) (o b : List ℕ) : Type 0 where
-      pub answer : c .answer ≡ answerFor o (length b)
+      pub answer : c .answer ≡ answerFor o total (length b)
       pub window : c .window ≡ over (take (length b) o) b
       pub given : handed c .out ≡ take (length b) o
       pub state : Reached (c .state) (drop (length b) o)
 
-    told-end : (s : State) (o b : List ℕ) → o ≡ [] → Reached s [] → Told (call (ok end) s b) o b
-    told-end s o b e h =
+    told-end : (s : State) (o b : List ℕ) → s .cursor .looked ≡ total → o ≡ [] → Reached s [] → Told (call (ok (end (s .cursor .looked))) s b) o b
+    told-end s o b u e h =
         let tk : take (length b) o ≡ [] = ap (take (length b)) e ∙ take-nil (length b) in
         record {
-          answer = ap (λ (y : List ℕ). answerFor y (length b)) (sym e);
+          answer = ap (λ (j : ℕ). ok (end j)) u ∙ ap (λ (y : List ℕ). answerFor y total (length b)) (sym e);
           window = ap (λ (y : List ℕ). over y b) (sym tk);
           given = sym tk;
           state = subst⁻¹ (Reached s) (ap (drop (length b)) e ∙ drop-nil (length b)) h;
@@ -181,7 +188,7 @@ module _ (t : List ℕ) (w : ℕ) where
     }
 
     go-on : (s at : State) (o b : List ℕ) → Reached s o → Rests at o → Told (goOn t w s at b) o b
-    go-on s at o b hs (none-left _ _ e f) = rw e (told-end at o b f (begun at [] (none-left at [] e refl)))
+    go-on s at o b hs (none-left _ _ e u f) = rw e (told-end at o b u f (begun at [] (none-left at [] e u refl)))
     go-on s at o b hs (some-left _ _ r e bg lt f h) = rw e (by (eqb (length b) 0) refl)
       where
         size : length (rest t at) ≡ length (putOf t (at .cursor)) - at .cursor .given
@@ -195,12 +202,12 @@ module _ (t : List ℕ) (w : ℕ) where
         by false ez = told-some (run (length b) t w at (length b)) o b l (run-gives (length b) (length b) at o (some-left at o r e bg lt f h) (omega arith))
 
     begun-of : (s : State) (o : List ℕ) → Rests s o → isFresh (s .cursor .phase) ≡ false
-    begun-of s o (none-left _ _ e f) = done-not-fresh (s .cursor .phase) e
+    begun-of s o (none-left _ _ e u f) = done-not-fresh (s .cursor .phase) e
     begun-of s o (some-left _ _ r e b lt f h) = b
 
-    module _ (q : ℕ) (hb : Bytes t) (good : tableOf true t ≡ ok (found xs q)) where
+    module _ (q : ℕ) (hb : Bytes t) (good : tableOf true t ≡ ok (found xs q)) (all : pageLooked xs w % 2 ^ 32 ≡ total) where
       start-rests : (s : State) → Begins s → Rests (started t w s) (page xs w)
-      start-rests s h = let a = sound true t xs q hb good in rests (started t w s) (page xs w) (page-puts t hb w xs s (a .good) (a .is) (h .size))
+      start-rests s h = let a = sound true t xs q hb good in rests (started t w s) (page xs w) (page-puts t hb w total xs s (a .good) (a .is) (h .size) all)
 
       -- every call on a state that calls have come to
       pub one-call : (s : State) (o b : List ℕ) → Reached s o → Told (fillOf t w s b) o b
@@ -226,13 +233,15 @@ fresh-begins = record { fresh = refl; size = lit≤ tt }
 
 pub windows-joined : WindowsJoined
 windows-joined t w xs q s hb good h bs =
-    let a = all-calls t w xs q hb good bs s (page xs w) (fresh s (page xs w) h refl) in
+    let k : ℕ = pageLooked xs w in
+    let small : k % 2 ^ 32 ≡ k = mod-eq-of-lt (looked-small t w xs q hb good) in
+    let a = all-calls t w k xs q hb good small bs s (page xs w) (fresh s (page xs w) h refl) in
     let s′ : State = calls t w s bs .state in
     let o : List ℕ = drop (room bs) (page xs w) in
     record {
       joined = a .0;
-      answer = λ b. one-call t w xs q hb good s′ o b (a .1) .answer;
-      window = λ b. one-call t w xs q hb good s′ o b (a .1) .window;
+      answer = λ b. one-call t w k xs q hb good small s′ o b (a .1) .answer;
+      window = λ b. one-call t w k xs q hb good small s′ o b (a .1) .window;
     }
 
 pub windows-end : WindowsEnd
@@ -240,12 +249,13 @@ windows-end t w xs q s hb good h bs l =
     let a = windows-joined t w xs q s hb good h bs in
     let s′ : State = calls t w s bs .state in
     let none : drop (room bs) (page xs w) ≡ [] = drop-of-length-le (page xs w) {i = room bs} l in
-    let answer : (b : List ℕ) → fillOf t w s′ b .answer ≡ ok end = λ b. a .answer b ∙ ap (λ (y : List ℕ). answerFor y (length b)) none in
+    let k : ℕ = pageLooked xs w in
+    let answer : (b : List ℕ) → fillOf t w s′ b .answer ≡ ok (end k) = λ b. a .answer b ∙ ap (λ (y : List ℕ). answerFor y k (length b)) none in
     record {
       all = a .joined ∙ take-all (room bs) (page xs w) l;
       answer = answer;
       window = λ b. a .window b ∙ ap (λ (y : List ℕ). over y b) (ap (take (length b)) none ∙ take-nil (length b));
-      stays = λ b b′. end-stays t w s′ b b′ (answer b);
+      stays = λ b b′. end-stays t w s′ b b′ k (answer b);
     }
 
 pub windows-refused : WindowsRefused

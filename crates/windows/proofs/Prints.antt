@@ -1,9 +1,11 @@
--- The machine at a tree's first record puts the layout of the tree, and goes on with the lists that are open. Assumes that the table's elements are bytes.
+-- The machine at a tree's first record puts the layout of the tree, counts the records that the fits test looks at for it, and goes on with the lists that are open.
+-- Assumes that the table's elements are bytes.
 use mathlib.Core.Path.{_≡_, refl, ap, sym, subst, subst⁻¹, _∙_}
-use mathlib.Core.Bool.{Bool, true, false, cond, _&&_}
+use mathlib.Core.Bool.{Bool, true, false, cond}
 use mathlib.Core.List.{List, [], _∷_, _++_, append-assoc, append-nil}
-use Prim.Native.Nat.{ℕ, suc, _+_, _-_, _≤_, _<_}
+use Prim.Native.Nat.{ℕ, suc, _+_, _-_, _%_, _^_, _≤_, _<_}
 use native.Mathlib.Omega.{arith}
+use native.Mathlib.Nat.{zero-add}
 use lib.ListN.{length, getD, set, length-append, length-set, drop-of-length-le}
 use lib.Seq.{getD-set-same, getD-set-other}
 use lib.Dec.{leb, eqb, lit<}
@@ -23,22 +25,26 @@ use Rattle.table.specs.declared.Record.the-variants.{Symbol, Integer, Binding, 
 use Rattle.table.specs.Records.{recordAt}
 use Rattle.lists.proofs.Stands.{Stands, stands-left, stands-right, stands-length}
 use Rattle.table.proofs.Heads.{Sized, good-sized, reads, value-read, some}
-use Rattle.printer.specs.Layout.{Wrapping, Wrap, SingleLine, bytes, column, breakColumn, put, nl, next, named, gap, inner, back, wrapped, fitsIn, fits, cost, lay, items, pageFrom, page}
-use Rattle.printer.specs.Fitting.{fitsAt}
+use Rattle.printer.specs.Layout.{Wrapping, Wrap, SingleLine, bytes, column, breakColumn, put, nl, next, named, gap, inner, back, wrapped, fitsIn, fits, lay, items, pageFrom, page}
+use Rattle.printer.specs.Looking.{looksIn, looks, tests, looked, lookedOf, pageLooked}
+use Rattle.printer.specs.Fitting.{tested, fitsAt}
 use Rattle.printer.proofs.FitWalk.{fits-stands}
 use Rattle.printer.proofs.LayoutBounds.{inner-le}
-use Rattle.windows.specs.Machine.{Phase, Node, Sign, Gap, Back, Close, Line, Between, Done, State, state, isDone, isFresh, leaves, broken, singleMargin, modeOf, nodePut, putOf, closePhase, past, flat, held, heldDue, heldMargin, opened, nodeNext, started, nextOf}
-use Rattle.windows.proofs.Steps.{cursor as cur}
+use Rattle.windows.specs.Machine.{Phase, Node, Sign, Gap, Back, Close, Line, Between, Done, Cursor, State, state, isDone, isFresh, leaves, broken, singleMargin, modeOf, nodePut, putOf, closePhase, past, testFor, marginFor, plus, held, heldDue, heldMargin, opened, nodeNext, started, nextOf}
+use Rattle.windows.proofs.Steps.{cursor}
 
--- from s the machine puts o, byte after byte, and is then done; of the next put nothing is given yet
-pub data Prints (t : List ℕ) (w : ℕ) : State → List ℕ → Type 0 where
-  over : (s : State) (o : List ℕ) → isDone (s .cursor .phase) ≡ true → o ≡ [] → Prints t w s o
+-- from s the machine puts o, byte after byte, and is then done, with `total` records looked at; of the next put nothing is given yet
+pub data Prints (t : List ℕ) (w total : ℕ) : State → List ℕ → Type 0 where
+  over : (s : State) (o : List ℕ) → isDone (s .cursor .phase) ≡ true → s .cursor .looked ≡ total → o ≡ [] → Prints t w total s o
   puts : (s : State) (o r : List ℕ) → isDone (s .cursor .phase) ≡ false → (isFresh (s .cursor .phase) ≡ false) × (s .cursor .given ≡ 0) → 0 < length (putOf t (s .cursor))
-      → o ≡ putOf t (s .cursor) ++ r → Prints t w (nextOf t w s) r → Prints t w s o
+      → o ≡ putOf t (s .cursor) ++ r → Prints t w total (nextOf t w s) r → Prints t w total s o
 
--- a state of whose next put nothing is given
-abbrev pub st : Phase → ℕ → ℕ → ℕ → ℕ → ℕ → ℕ → List ℕ → State
-st f p k d g l i z = state (cur f p k d g l i) z
+-- a cursor and a state of whose next put nothing is given, after u records were looked at: a cursor's count is cut to 32 bits, so that u needs no bound
+abbrev pub cur : Phase → ℕ → ℕ → ℕ → ℕ → ℕ → ℕ → ℕ → Cursor
+cur f p k d g l i u = cursor f p k d g l i (u % 2 ^ 32)
+
+abbrev pub st : Phase → ℕ → ℕ → ℕ → ℕ → ℕ → ℕ → ℕ → List ℕ → State
+st f p k d g l i u z = state (cur f p k d g l i u) z
 
 -- ---- the stack
 
@@ -110,191 +116,216 @@ wrap-single : SingleLine ≡ Wrap → ⊥
 wrap-single z = let y : _≡_ {A = ℕ} 0 1 = cc in omega arith
 
 -- what a column leaves of the line leaves that column, or one past the width
-left-fits : (w c k : ℕ) → fitsIn w (leaves w (leaves w c)) k ≡ fitsIn w c k
-unfolding fitsIn
-left-fits w c k = by (leb c w) refl
+left-test : (w c : ℕ) (x : Tree) → tested (fits w (leaves w (leaves w c)) x) (looks w (leaves w (leaves w c)) x) ≡ tested (fits w c x) (looks w c x)
+unfolding fitsIn looksIn
+left-test w c x = by (leb c w) refl
   where
-    by : (z : Bool) → leb c w ≡ z → (leb (w + 1 - (w + 1 - c)) w && leb k (w - (w + 1 - (w + 1 - c)))) ≡ (z && leb k (w - c))
-    by true e = let l = leb-true c w e in let f : w + 1 - (w + 1 - c) ≡ c = omega (arith, l) in rw (f, e) refl
-    by false e = let l = leb-false c w e in rw (lt-leb (w + 1 - (w + 1 - c)) w (omega (arith, l))) refl
+    past-width : (q : ℕ) → w < q → tested (fits w q x) (looks w q x) ≡ tested false 0
+    past-width q l = rw (lt-leb q w l) refl
+
+    by : (z : Bool) → leb c w ≡ z → tested (fits w (leaves w (leaves w c)) x) (looks w (leaves w (leaves w c)) x) ≡ tested (fits w c x) (looks w c x)
+    by true e = let l = leb-true c w e in let f : leaves w (leaves w c) ≡ c = omega (arith, l) in ap (λ (q : ℕ). tested (fits w q x) (looks w q x)) f
+    by false e = let l = leb-false c w e in past-width (leaves w (leaves w c)) (omega (arith, l)) ∙ sym (past-width c l)
 
 wrap-back : (m : Wrapping) (w c : ℕ) (x : Tree) → wrapped m w c x ≡ Wrap → m ≡ Wrap
 wrap-back SingleLine w c x e = e
 wrap-back Wrap w c x e = refl
 
-flat-is : (m : Wrapping) (f : Bool) (x : Tree) (w ind i c : ℕ) → f ≡ fits w c x → (m ≡ Wrap → ind ≡ i) → cond (flat m f) singleMargin ind ≡ marginAt (wrapped m w c x) i
-flat-is SingleLine f x w ind i c e h = refl
-flat-is Wrap true x w ind i c e h = rw (sym e) refl
-flat-is Wrap false x w ind i c e h = rw (sym e) (h refl)
+margin-is : (f : Bool) (ind i : ℕ) → ind ≡ i → marginFor f ind ≡ marginAt (cond f SingleLine Wrap) i
+margin-is true ind i e = refl
+margin-is false ind i e = e
 
-module _ (t : List ℕ) (hb : Bytes t) (w : ℕ) where
+-- ---- counts
+
+-- b records more
+plus-is : (u b : ℕ) → plus (u % 2 ^ 32) b ≡ (b + u) % 2 ^ 32
+plus-is u b = omega arith
+
+-- a records more, then b
+both-counts : (a b u : ℕ) → a + b + u ≡ b + (a + u)
+both-counts a b u = omega arith
+
+module _ (t : List ℕ) (hb : Bytes t) (w total : ℕ) where
   -- after a tree that ends before p at column c, whatever the stack holds above the k lists that are open, and at any indent
-  abbrev pub After : ℕ → ℕ → ℕ → List ℕ → ℕ → ℕ → List ℕ → Type 0
-  After k d g z p c o = (z′ : List ℕ) (i : ℕ) → Same k z z′ → Prints t w (state (past (cur Node p k d g (leaves w c) i) p (leaves w c)) z′) o
+  abbrev pub After : ℕ → ℕ → ℕ → ℕ → List ℕ → ℕ → ℕ → List ℕ → Type 0
+  After k d g u z p c o = (z′ : List ℕ) (i : ℕ) → Same k z z′ → Prints t w total (state (past (cur Node p k d g (leaves w c) i u) p (leaves w c)) z′) o
+
+  -- the same by another sum for the count and the place
+  after-at : (k d g c : ℕ) (z o : List ℕ) (u v p q : ℕ) → u ≡ v → p ≡ q → After k d g u z p c o → After k d g v z q c o
+  after-at k d g c z o u v p q e f h = subst (λ (j : ℕ). After k d g j z q c o) e (subst (λ (j : ℕ). After k d g u z j c o) f h)
 
   one : (s s′ : State) (a o : List ℕ) → isDone (s .cursor .phase) ≡ false → (isFresh (s .cursor .phase) ≡ false) × (s .cursor .given ≡ 0) → putOf t (s .cursor) ≡ a
-      → 0 < length a → nextOf t w s ≡ s′ → Prints t w s′ o → Prints t w s (a ++ o)
-  one s s′ a o nd g e l en h = puts s (a ++ o) o nd g (rw e l) (rw e refl) (subst⁻¹ (λ (y : State). Prints t w y o) en h)
+      → 0 < length a → nextOf t w s ≡ s′ → Prints t w total s′ o → Prints t w total s (a ++ o)
+  one s s′ a o nd g e l en h = puts s (a ++ o) o nd g (rw e l) (rw e refl) (subst⁻¹ (λ (y : State). Prints t w total y o) en h)
 
   -- the put of a record, and the state after it, by the record that is read
-  node : (p k d g l i : ℕ) (z : List ℕ) (x : Record) → x ≡ recordAt t p
-      → (putOf t (cur Node p k d g l i) ≡ nodePut t p x) × (nextOf t w (st Node p k d g l i z) ≡ nodeNext t w (st Node p k d g l i z) x)
+  node : (p k d g l i u : ℕ) (z : List ℕ) (x : Record) → x ≡ recordAt t p
+      → (putOf t (cur Node p k d g l i u) ≡ nodePut t p x) × (nextOf t w (st Node p k d g l i u z) ≡ nodeNext t w (st Node p k d g l i u z) x)
   unfolding putOf nextOf
-  node p k d g l i z x e = (rw e refl, rw e refl)
+  node p k d g l i u z x e = (rw e refl, rw e refl)
 
   -- an atom: its bytes, and what follows it
-  atom : (p k d g c ind len : ℕ) (z a o : List ℕ) (x : Record) → x ≡ recordAt t p → nodePut t p x ≡ a → 0 < length a
-      → nodeNext t w (st Node p k d g (leaves w c) ind z) x ≡ state (past (cur Node p k d g (leaves w c) ind) (p + len) (leaves w c - length a)) z
-      → depthLimit ≤ length z → After k d g z (p + len) (c + length a) o
-      → Prints t w (st Node p k d g (leaves w c) ind z) (a ++ o)
-  atom p k d g c ind len z a o x ex ea l en ez h =
-      let s : State = st Node p k d g (leaves w c) ind z in
-      let n = node p k d g (leaves w c) ind z x ex in
+  atom : (p k d g c ind u len : ℕ) (z a o : List ℕ) (x : Record) → x ≡ recordAt t p → nodePut t p x ≡ a → 0 < length a
+      → nodeNext t w (st Node p k d g (leaves w c) ind u z) x ≡ state (past (cur Node p k d g (leaves w c) ind u) (p + len) (leaves w c - length a)) z
+      → depthLimit ≤ length z → After k d g u z (p + len) (c + length a) o
+      → Prints t w total (st Node p k d g (leaves w c) ind u z) (a ++ o)
+  atom p k d g c ind u len z a o x ex ea l en ez h =
+      let s : State = st Node p k d g (leaves w c) ind u z in
+      let n = node p k d g (leaves w c) ind u z x ex in
       let f : leaves w c - length a ≡ leaves w (c + length a) = omega arith in
       one s (state (past (s .cursor) (p + len) (leaves w (c + length a))) z) a o refl (refl, refl) (n .0 ∙ ea) l
       (n .1 ∙ en ∙ ap (λ (j : ℕ). state (past (s .cursor) (p + len) j) z) f) (h z ind (same-refl k z ez))
 
   -- `)`, and what follows the list that it closes: the one around it comes back from the stack
-  shut : (p k d g d′ g′ c ind : ℕ) (z o : List ℕ) → Kept z k d g → Prints t w (state (past (cur Node p k d g (leaves w (c + 1)) ind) p (leaves w (c + 1))) z) o
-      → Prints t w (st Close p (k + 1) d′ g′ (leaves w c) ind z) ((41 ∷ []) ++ o)
+  shut : (p k d g d′ g′ c ind u : ℕ) (z o : List ℕ) → Kept z k d g → Prints t w total (state (past (cur Node p k d g (leaves w (c + 1)) ind u) p (leaves w (c + 1))) z) o
+      → Prints t w total (st Close p (k + 1) d′ g′ (leaves w c) ind u z) ((41 ∷ []) ++ o)
   unfolding putOf nextOf
-  shut p k d g d′ g′ c ind z o hk h =
+  shut p k d g d′ g′ c ind u z o hk h =
       let e : k + 1 - 1 ≡ k = omega arith in
       let f : leaves w c - 1 ≡ leaves w (c + 1) = omega arith in
-      one (st Close p (k + 1) d′ g′ (leaves w c) ind z) (state (past (cur Node p k d g (leaves w (c + 1)) ind) p (leaves w (c + 1))) z) (41 ∷ []) o refl (refl, refl) refl
+      one (st Close p (k + 1) d′ g′ (leaves w c) ind u z) (state (past (cur Node p k d g (leaves w (c + 1)) ind u) p (leaves w (c + 1))) z) (41 ∷ []) o refl (refl, refl) refl
       (omega arith) (rw (e, f, hk .due, hk .margin) refl) h
 
   -- after an item, with n more of them due
-  after-item : (p k l ind n i : ℕ) (m : Wrapping) (z : List ℕ) → i < singleMargin
-      → state (past (cur Node p (k + 1) n (marginAt m i) l ind) p l) z ≡ st (cond (eqb n 0) (closePhase m) Gap) p (k + 1) n (marginAt m i) l ind z
-  after-item p k l ind n i m z h = rw (ne-eqb (k + 1) 0 (λ y. omega arith), mode-margin m i h) refl
+  after-item : (p k l ind u n i : ℕ) (m : Wrapping) (z : List ℕ) → i < singleMargin
+      → state (past (cur Node p (k + 1) n (marginAt m i) l ind u) p l) z ≡ st (cond (eqb n 0) (closePhase m) Gap) p (k + 1) n (marginAt m i) l ind u z
+  after-item p k l ind u n i m z h = rw (ne-eqb (k + 1) 0 (λ y. omega arith), mode-margin m i h) refl
 
   -- the new line before `)`, where one stands, and `)`
-  ended : (p k d g d′ ind i c : ℕ) (m : Wrapping) (z o : List ℕ) → Kept z k d g
-      → Prints t w (state (past (cur Node p k d g (leaves w (column (next (back false m i c) (put (41 ∷ []))))) ind) p (leaves w (column (next (back false m i c) (put (41 ∷ [])))))) z) o
-      → Prints t w (st (closePhase m) p (k + 1) d′ (marginAt m i) (leaves w c) ind z) (bytes (next (back false m i c) (put (41 ∷ []))) ++ o)
+  ended : (p k d g d′ ind u i c : ℕ) (m : Wrapping) (z o : List ℕ) → Kept z k d g
+      → Prints t w total (state (past (cur Node p k d g (leaves w (column (next (back false m i c) (put (41 ∷ []))))) ind u) p (leaves w (column (next (back false m i c) (put (41 ∷ [])))))) z) o
+      → Prints t w total (st (closePhase m) p (k + 1) d′ (marginAt m i) (leaves w c) ind u z) (bytes (next (back false m i c) (put (41 ∷ []))) ++ o)
   unfolding putOf nextOf
-  ended p k d g d′ ind i c SingleLine z o hk h = shut p k d g d′ singleMargin c ind z o hk h
-  ended p k d g d′ ind i c Wrap z o hk h =
+  ended p k d g d′ ind u i c SingleLine z o hk h = shut p k d g d′ singleMargin c ind u z o hk h
+  ended p k d g d′ ind u i c Wrap z o hk h =
       let q : bytes (nl i) ++ ((41 ∷ []) ++ o) ≡ (bytes (nl i) ++ (41 ∷ [])) ++ o = sym (append-assoc (bytes (nl i)) (41 ∷ []) o) in
-      subst (Prints t w (st Back p (k + 1) d′ i (leaves w c) ind z)) q
-      (one (st Back p (k + 1) d′ i (leaves w c) ind z) (st Close p (k + 1) d′ i (broken w i) ind z) (bytes (nl i)) ((41 ∷ []) ++ o) refl (refl, refl)
-      refl (omega arith) refl (shut p k d g d′ i (breakColumn i) ind z o hk h))
+      subst (Prints t w total (st Back p (k + 1) d′ i (leaves w c) ind u z)) q
+      (one (st Back p (k + 1) d′ i (leaves w c) ind u z) (st Close p (k + 1) d′ i (broken w i) ind u z) (bytes (nl i)) ((41 ∷ []) ++ o) refl (refl, refl)
+      refl (omega arith) refl (shut p k d g d′ i (breakColumn i) ind u z o hk h))
 
   -- the gap before a later item
-  gapped : (p k ind i c n : ℕ) (m : Wrapping) (z o : List ℕ) → i < singleMargin
-      → ((j : ℕ) → (m ≡ Wrap → j ≡ inner false m i) → Prints t w (st Node p (k + 1) n (marginAt m i) (leaves w (column (gap false m i c))) j z) o)
-      → Prints t w (st Gap p (k + 1) (suc n) (marginAt m i) (leaves w c) ind z) (bytes (gap false m i c) ++ o)
+  gapped : (p k ind u i c n : ℕ) (m : Wrapping) (z o : List ℕ) → i < singleMargin
+      → ((j : ℕ) → (m ≡ Wrap → j ≡ inner false m i) → Prints t w total (st Node p (k + 1) n (marginAt m i) (leaves w (column (gap false m i c))) j u z) o)
+      → Prints t w total (st Gap p (k + 1) (suc n) (marginAt m i) (leaves w c) ind u z) (bytes (gap false m i c) ++ o)
   unfolding putOf nextOf
-  gapped p k ind i c n SingleLine z o hi h =
+  gapped p k ind u i c n SingleLine z o hi h =
       let f : leaves w c - 1 ≡ leaves w (c + 1) = omega arith in
       let e : suc n - 1 ≡ n = omega arith in
-      one (st Gap p (k + 1) (suc n) singleMargin (leaves w c) ind z) (st Node p (k + 1) n singleMargin (leaves w (c + 1)) ind z) (32 ∷ []) o refl (refl, refl)
+      one (st Gap p (k + 1) (suc n) singleMargin (leaves w c) ind u z) (st Node p (k + 1) n singleMargin (leaves w (c + 1)) ind u z) (32 ∷ []) o refl (refl, refl)
       refl (omega arith) (rw (f, e) refl) (h ind (λ y. absurd (wrap-single y)))
-  gapped p k ind i c n Wrap z o hi h =
+  gapped p k ind u i c n Wrap z o hi h =
       let e : suc n - 1 ≡ n = omega arith in
       let ne = ne-eqb i singleMargin (λ y. omega arith) in
-      one (st Gap p (k + 1) (suc n) i (leaves w c) ind z) (st Node p (k + 1) n i (broken w (i + 1)) (i + 1) z) (bytes (nl (i + 1))) o refl (refl, refl)
+      one (st Gap p (k + 1) (suc n) i (leaves w c) ind u z) (st Node p (k + 1) n i (broken w (i + 1)) (i + 1) u z) (bytes (nl (i + 1))) o refl (refl, refl)
       (rw ne refl) (omega arith) (rw (ne, e) refl) (h (i + 1) (λ y. refl))
 
-  -- a list of n items: what is put, and the state behind its `(`
-  opened-is : (xs : Trees) (a p k d g i ind c : ℕ) (m : Wrapping) (z : List ℕ) → Good (list xs) a → p ≤ length t → Stands t p (records (list xs))
-      → k < depthLimit → modeOf g ≡ m → (m ≡ Wrap → ind ≡ i)
-      → (putOf t (cur Node p k d g (leaves w c) ind) ≡ 40 ∷ [])
-      × (nextOf t w (st Node p k d g (leaves w c) ind z) ≡ state (opened (cur Node p k d g (leaves w c) ind) (count xs) (marginAt (wrapped m w c (list xs)) i)) (set z k (held d g)))
-  opened-is xs a p k d g i ind c m z good hp s hk em hi =
-      let sz = good-sized (list xs) a good in
-      let n = node p k d g (leaves w c) ind z (ListOf (count xs)) (reads (list xs) t p sz hp s) in
-      let q : ℕ = leaves w (leaves w c) in
-      let e : fitsAt t p w q ≡ fits w c (list xs) = fits-stands t hb (list xs) p w q sz hp s ∙ left-fits w c (cost (list xs)) in
-      let f = flat-is m (fitsAt t p w q) (list xs) w ind i c e hi in
-      (n .0, n .1 ∙ rw (lt-ltb k depthLimit hk, em, f) refl)
+  -- the cursor behind the `(` of a list of n items, by its test
+  behind : (x : Tree) (n p k d g i ind c u : ℕ) (m : Wrapping) → fitsAt t p w (leaves w (leaves w c)) ≡ tested (fits w c x) (looks w c x) → (m ≡ Wrap → ind ≡ i)
+      → opened (cur Node p k d g (leaves w c) ind u) n (testFor t w (cur Node p k d g (leaves w c) ind u) m)
+      ≡ cur (cond (eqb n 0) Close Node) (p + listLen) (k + 1) (n - 1) (marginAt (wrapped m w c x) i) (leaves w c - 1) ind (tests m w c x + u)
+  behind x n p k d g i ind c u SingleLine e h = rw (plus-is u 0) refl
+  behind x n p k d g i ind c u Wrap e h = rw (e, margin-is (fits w c x) ind i (h refl), plus-is u (looks w c x)) refl
 
-  after-back : (k d g p c : ℕ) (z y o : List ℕ) → Same k z y → After k d g z p c o → After k d g y p c o
-  after-back k d g p c z y o a h x j s = h x j (same-then a s)
+  -- a list: what is put, and the state behind its `(`
+  opened-is : (xs : Trees) (a p k d g i ind c u : ℕ) (m : Wrapping) (z : List ℕ) → Good (list xs) a → p ≤ length t → Stands t p (records (list xs))
+      → k < depthLimit → modeOf g ≡ m → (m ≡ Wrap → ind ≡ i)
+      → (putOf t (cur Node p k d g (leaves w c) ind u) ≡ 40 ∷ [])
+      × (nextOf t w (st Node p k d g (leaves w c) ind u z)
+      ≡ st (cond (eqb (count xs) 0) Close Node) (p + listLen) (k + 1) (count xs - 1) (marginAt (wrapped m w c (list xs)) i) (leaves w c - 1) ind (tests m w c (list xs) + u) (set z k (held d g)))
+  opened-is xs a p k d g i ind c u m z good hp s hk em hi =
+      let sz = good-sized (list xs) a good in
+      let n = node p k d g (leaves w c) ind u z (ListOf (count xs)) (reads (list xs) t p sz hp s) in
+      let q : ℕ = leaves w (leaves w c) in
+      let b = behind (list xs) (count xs) p k d g i ind c u m (fits-stands t hb (list xs) p w q sz hp s ∙ left-test w c (list xs)) hi in
+      (n .0, n .1 ∙ rw (lt-ltb k depthLimit hk, em, b) refl)
+
+  after-back : (k d g u p c : ℕ) (z y o : List ℕ) → Same k z y → After k d g u z p c o → After k d g u y p c o
+  after-back k d g u p c z y o a h x j s = h x j (same-then a s)
 
   list-size : (n p : ℕ) → p + length (record-of listKind (le 4 n)) ≡ p + listLen
   list-size n p = rw (length-record listKind (le 4 n), le-length 4 n) refl
 
   -- a binding's name and ` @ `
-  bound : (p k d g ind c : ℕ) (z n b o : List ℕ) (x : Tree) → Sized (binding n x) → p ≤ length t → Stands t p (records (binding n x)) → 0 < length n
-      → Prints t w (st Node (p + (length n + headLen)) k d g (leaves w (c + length (named n))) ind z) (b ++ o)
-      → Prints t w (st Node p k d g (leaves w c) ind z) ((named n ++ b) ++ o)
+  bound : (p k d g ind u c : ℕ) (z n b o : List ℕ) (x : Tree) → Sized (binding n x) → p ≤ length t → Stands t p (records (binding n x)) → 0 < length n
+      → Prints t w total (st Node (p + (length n + headLen)) k d g (leaves w (c + length (named n))) ind u z) (b ++ o)
+      → Prints t w total (st Node p k d g (leaves w c) ind u z) ((named n ++ b) ++ o)
   unfolding putOf nextOf records Sized
-  bound p k d g ind c z n b o x sz hp s l h =
+  bound p k d g ind u c z n b o x sz hp s l h =
       let len : ℕ = length n + headLen in
       let sg : List ℕ = 32 ∷ 64 ∷ 32 ∷ [] in
       let e : length n + headLen - headLen ≡ length n = omega arith in
       let f : leaves w c - length n - 3 ≡ leaves w (c + length (named n)) = simp length-append (omega arith) in
-      let nd = node p k d g (leaves w c) ind z (Binding len) (reads (binding n x) t p sz hp s) in
+      let nd = node p k d g (leaves w c) ind u z (Binding len) (reads (binding n x) t p sz hp s) in
       let nm = stood-payload t p bindingKind n (stood t p bindingKind n hp (lit< tt) (sz .0) (stands-left t p (record-of bindingKind n) (records x) s)) in
-      let s1 : State = st Sign (p + len) k d g (leaves w c - length n) ind z in
+      let s1 : State = st Sign (p + len) k d g (leaves w c - length n) ind u z in
       let q : n ++ (sg ++ (b ++ o)) ≡ ((n ++ sg) ++ b) ++ o = sym (append-assoc n sg (b ++ o)) ∙ sym (append-assoc (n ++ sg) b o) in
-      subst (Prints t w (st Node p k d g (leaves w c) ind z)) q
-      (one (st Node p k d g (leaves w c) ind z) s1 n (sg ++ (b ++ o)) refl (refl, refl) (nd .0 ∙ nm) l
-      (nd .1 ∙ ap (λ (j : ℕ). st Sign (p + len) k d g (leaves w c - j) ind z) e)
-      (one s1 (st Node (p + len) k d g (leaves w (c + length (named n))) ind z) sg (b ++ o) refl (refl, refl) refl (omega arith)
-      (ap (λ (j : ℕ). st Node (p + len) k d g j ind z) f) h))
+      subst (Prints t w total (st Node p k d g (leaves w c) ind u z)) q
+      (one (st Node p k d g (leaves w c) ind u z) s1 n (sg ++ (b ++ o)) refl (refl, refl) (nd .0 ∙ nm) l
+      (nd .1 ∙ ap (λ (j : ℕ). st Sign (p + len) k d g (leaves w c - j) ind u z) e)
+      (one s1 (st Node (p + len) k d g (leaves w (c + length (named n))) ind u z) sg (b ++ o) refl (refl, refl) refl (omega arith)
+      (ap (λ (j : ℕ). st Node (p + len) k d g j ind u z) f) h))
 
   mutual
-    unfolding lay records Good
+    unfolding lay looked records Good
 
-    -- THE MACHINE AT A TREE: with k lists open, of the innermost of which d items are due at margin g, and a more to be opened; in mode m at indent i and column c
-    pub tree : (x : Tree) (a p k d g i ind c : ℕ) (m : Wrapping) (z o : List ℕ) → Good x a → p ≤ length t → Stands t p (records x)
+    -- THE MACHINE AT A TREE: with k lists open, of the innermost of which d items are due at margin g, and a more to be opened; in mode m at indent i and column c, after u records were looked at
+    pub tree : (x : Tree) (a p k d g i ind c u : ℕ) (m : Wrapping) (z o : List ℕ) → Good x a → p ≤ length t → Stands t p (records x)
         → k + a ≤ depthLimit → i + a ≤ depthLimit → depthLimit ≤ length z → (d < 4294967296) × (g < 256) → modeOf g ≡ m → (m ≡ Wrap → ind ≡ i)
-        → After k d g z (p + length (records x)) (column (lay x m w i c)) o
-        → Prints t w (st Node p k d g (leaves w c) ind z) (bytes (lay x m w i c) ++ o)
-    tree (symbol n) a p k d g i ind c m z o good hp s hk hi ez hd em hin h =
+        → After k d g (looked x m w i c + u) z (p + length (records x)) (column (lay x m w i c)) o
+        → Prints t w total (st Node p k d g (leaves w c) ind u z) (bytes (lay x m w i c) ++ o)
+    tree (symbol n) a p k d g i ind c u m z o good hp s hk hi ez hd em hin h =
         let e : length n + headLen - headLen ≡ length n = omega arith in
-        atom p k d g c ind (length n + headLen) z n o (Symbol (length n + headLen)) (reads (symbol n) t p (good-sized (symbol n) a good) hp s)
+        atom p k d g c ind u (length n + headLen) z n o (Symbol (length n + headLen)) (reads (symbol n) t p (good-sized (symbol n) a good) hp s)
         (stood-payload t p symbolKind n (stood t p symbolKind n hp (lit< tt) (good .1) s)) (some-bytes n (good .0))
-        (ap (λ (j : ℕ). state (past (cur Node p k d g (leaves w c) ind) (p + (length n + headLen)) (leaves w c - j)) z) e) ez
-        (subst (λ (j : ℕ). After k d g z (p + j) (c + length n) o) (length-record symbolKind n) h)
-    tree (integer v) a p k d g i ind c m z o good hp s hk hi ez hd em hin h =
+        (ap (λ (j : ℕ). state (past (cur Node p k d g (leaves w c) ind u) (p + (length n + headLen)) (leaves w c - j)) z) e) ez
+        (after-at k d g (c + length n) z o _ _ _ _ (zero-add u) (ap (λ (j : ℕ). p + j) (length-record symbolKind n)) h)
+    tree (integer v) a p k d g i ind c u m z o good hp s hk hi ez hd em hin h =
         let r = value-read v t p good hp s in
         let e : length (record-of integerKind (wideBytes v)) ≡ integerLen = length-record integerKind (wideBytes v) ∙ rw (wide-length v) refl in
-        atom p k d g c ind integerLen z (integerText v) o Integer (reads (integer v) t p (good-sized (integer v) a good) hp s)
+        atom p k d g c ind u integerLen z (integerText v) o Integer (reads (integer v) t p (good-sized (integer v) a good) hp s)
         (ap integerText r) (some-text v)
         (rw r refl) ez
-        (subst (λ (j : ℕ). After k d g z (p + j) (c + length (integerText v)) o) e h)
-    tree (binding n x) a p k d g i ind c m z o good hp s hk hi ez hd em hin h =
-        bound p k d g ind c z n (bytes (lay x m w i (c + length (named n)))) o x (good-sized (binding n x) a good) hp s (some-bytes n (good .1))
+        (after-at k d g (c + length (integerText v)) z o _ _ _ _ (zero-add u) (ap (λ (j : ℕ). p + j) e) h)
+    tree (binding n x) a p k d g i ind c u m z o good hp s hk hi ez hd em hin h =
+        bound p k d g ind u c z n (bytes (lay x m w i (c + length (named n)))) o x (good-sized (binding n x) a good) hp s (some-bytes n (good .1))
         (let sz = length-record bindingKind n in
         let q : p + length (record-of bindingKind n) ≡ p + (length n + headLen) = ap (λ (j : ℕ). p + j) sz in
-        tree x (a - 1) (p + (length n + headLen)) k d g i ind (c + length (named n)) m z o (good .3)
+        tree x (a - 1) (p + (length n + headLen)) k d g i ind (c + length (named n)) u m z o (good .3)
         (rw (sym q) (stands-length t p (record-of bindingKind n) hp (stands-left t p (record-of bindingKind n) (records x) s)))
         (subst (λ (j : ℕ). Stands t j (records x)) q (stands-right t p (record-of bindingKind n) (records x) s)) (omega arith) (omega arith) ez hd em hin
-        (subst (λ (j : ℕ). After k d g z j (column (lay x m w i (c + length (named n)))) o) (simp length-append (omega (arith, sz))) h))
-    tree (list xs) a p k d g i ind c m z o good hp s hk hi ez hd em hin h =
+        (subst (λ (j : ℕ). After k d g (looked x m w i (c + length (named n)) + u) z j (column (lay x m w i (c + length (named n)))) o) (simp length-append (omega (arith, sz))) h))
+    tree (list xs) a p k d g i ind c u m z o good hp s hk hi ez hd em hin h =
         let n : ℕ = count xs in
         let b = good .0 in
-        let op = opened-is xs a p k d g i ind c m z good hp s (omega (arith, b)) em hin in
+        let op = opened-is xs a p k d g i ind c u m z good hp s (omega (arith, b)) em hin in
         let mm : Wrapping = wrapped m w c (list xs) in
         let f : leaves w c - 1 ≡ leaves w (c + 1) = omega arith in
+        let v : ℕ = tests m w c (list xs) + u in
+        let l : ℕ = lookedOf xs true mm w i (c + 1) in
         let hd1 : List ℕ = record-of listKind (le 4 n) in
         let e : p + length hd1 ≡ p + listLen = list-size n p in
         let s1 : Stands t (p + listLen) (recordsOf xs) = subst (λ (j : ℕ). Stands t j (recordsOf xs)) e (stands-right t p hd1 (recordsOf xs) s) in
         let hp1 : p + listLen ≤ length t = omega (arith, e, stands-length t p hd1 hp (stands-left t p hd1 (recordsOf xs) s)) in
         let q : p + length (hd1 ++ recordsOf xs) ≡ p + listLen + length (recordsOf xs) = simp length-append (omega (arith, e)) in
         let y : List ℕ = set z k (held d g) in
-        let s2 : ℕ → State = λ (j : ℕ). st (cond (eqb n 0) Close Node) (p + listLen) (k + 1) (n - 1) (marginAt mm i) j ind y in
+        let s2 : ℕ → State = λ (j : ℕ). st (cond (eqb n 0) Close Node) (p + listLen) (k + 1) (n - 1) (marginAt mm i) j ind v y in
         let c2 : ℕ = column (items xs true mm w i (c + 1)) in
         let sm : Same k z y = same-set k z (held d g) ez in
-        one (st Node p k d g (leaves w c) ind z) (s2 (leaves w (c + 1))) (40 ∷ []) (bytes (items xs true mm w i (c + 1)) ++ o) refl (refl, refl) (op .0) (omega arith)
+        one (st Node p k d g (leaves w c) ind u z) (s2 (leaves w (c + 1))) (40 ∷ []) (bytes (items xs true mm w i (c + 1)) ++ o) refl (refl, refl) (op .0) (omega arith)
         (op .1 ∙ ap s2 f)
-        (firsts xs (a - 1) (p + listLen) k d g i ind (c + 1) mm y o (good .2) (good .1) hp1 s1 (omega (arith, b)) (omega (arith, b)) (sm .size)
-        (kept-set z k d g (omega (arith, b)) (hd .0) (hd .1)) (λ u. hin (wrap-back m w c (list xs) u))
-        (after-back k d g (p + listLen + length (recordsOf xs)) c2 z y o sm (subst (λ (j : ℕ). After k d g z j c2 o) q h)))
+        (firsts xs (a - 1) (p + listLen) k d g i ind (c + 1) v mm y o (good .2) (good .1) hp1 s1 (omega (arith, b)) (omega (arith, b)) (sm .size)
+        (kept-set z k d g (omega (arith, b)) (hd .0) (hd .1)) (λ r. hin (wrap-back m w c (list xs) r))
+        (after-back k d g (l + v) (p + listLen + length (recordsOf xs)) c2 z y o sm (after-at k d g c2 z o _ _ _ _ (both-counts (tests m w c (list xs)) l u) q h)))
 
     -- behind the `(` of a list, around which d items are due at margin g
-    pub firsts : (xs : Trees) (a p k d g i ind c : ℕ) (m : Wrapping) (z o : List ℕ) → Goods xs a → count xs < 4294967296 → p ≤ length t → Stands t p (recordsOf xs)
+    pub firsts : (xs : Trees) (a p k d g i ind c u : ℕ) (m : Wrapping) (z o : List ℕ) → Goods xs a → count xs < 4294967296 → p ≤ length t → Stands t p (recordsOf xs)
         → k + 1 + a ≤ depthLimit → i + 1 + a ≤ depthLimit → depthLimit ≤ length z → Kept z k d g → (m ≡ Wrap → ind ≡ i)
-        → After k d g z (p + length (recordsOf xs)) (column (items xs true m w i c)) o
-        → Prints t w (st (cond (eqb (count xs) 0) Close Node) p (k + 1) (count xs - 1) (marginAt m i) (leaves w c) ind z) (bytes (items xs true m w i c) ++ o)
-    firsts none a p k d g i ind c m z o good hn hp s hk hi ez kt hin h =
+        → After k d g (lookedOf xs true m w i c + u) z (p + length (recordsOf xs)) (column (items xs true m w i c)) o
+        → Prints t w total (st (cond (eqb (count xs) 0) Close Node) p (k + 1) (count xs - 1) (marginAt m i) (leaves w c) ind u z) (bytes (items xs true m w i c) ++ o)
+    firsts none a p k d g i ind c u m z o good hn hp s hk hi ez kt hin h =
         let q : p + 0 ≡ p = omega arith in
-        shut p k d g 0 (marginAt m i) c ind z o kt (subst (λ (j : ℕ). After k d g z j (c + 1) o) q h z ind (same-refl k z ez))
-    firsts (more x xs) a p k d g i ind c m z o good hn hp s hk hi ez kt hin h =
+        shut p k d g 0 (marginAt m i) c ind u z o kt (after-at k d g (c + 1) z o _ _ _ _ (zero-add u) q h z ind (same-refl k z ez))
+    firsts (more x xs) a p k d g i ind c u m z o good hn hp s hk hi ez kt hin h =
         let n : ℕ = count xs in
         let g1 : ℕ = marginAt m i in
         let e : suc n - 1 ≡ n = omega arith in
@@ -304,28 +335,30 @@ module _ (t : List ℕ) (hb : Bytes t) (w : ℕ) where
         let bx : List ℕ = bytes (lay x m w i c) in
         let bs : List ℕ = bytes (items xs false m w i c2) in
         let ra : bx ++ (bs ++ o) ≡ (bx ++ bs) ++ o = sym (append-assoc bx bs o) in
-        let s0 : State = st Node p (k + 1) n g1 (leaves w c) ind z in
-        let cl : After k d g z (p + length (records x) + length (recordsOf xs)) (column (items xs false m w i c2)) o =
-        subst (λ (j : ℕ). After k d g z j (column (items xs false m w i c2)) o) q h in
-        let is : st (cond (eqb (suc n) 0) Close Node) p (k + 1) (suc n - 1) g1 (leaves w c) ind z ≡ s0 = rw (ne-eqb (suc n) 0 (λ y. omega arith), e) refl in
-        subst⁻¹ (λ (y : State). Prints t w y ((bx ++ bs) ++ o)) is
-        (subst (Prints t w s0) ra
-        (tree x a p (k + 1) n g1 i ind c m z (bs ++ o) (good .0) hp sx hk (omega arith) ez (omega arith, margin-lt m i (omega arith)) (mode-margin m i (omega arith)) hin
-        (λ y j sm. later xs a (p + length (records x)) k d g i j c2 m y o (good .1) (omega arith) (stands-length t p (records x) hp sx)
+        let s0 : State = st Node p (k + 1) n g1 (leaves w c) ind u z in
+        let v : ℕ = looked x m w i c + u in
+        let l : ℕ = lookedOf xs false m w i c2 in
+        let cl : After k d g (l + v) z (p + length (records x) + length (recordsOf xs)) (column (items xs false m w i c2)) o =
+        after-at k d g (column (items xs false m w i c2)) z o _ _ _ _ (both-counts (looked x m w i c) l u) q h in
+        let is : st (cond (eqb (suc n) 0) Close Node) p (k + 1) (suc n - 1) g1 (leaves w c) ind u z ≡ s0 = rw (ne-eqb (suc n) 0 (λ y. omega arith), e) refl in
+        subst⁻¹ (λ (y : State). Prints t w total y ((bx ++ bs) ++ o)) is
+        (subst (Prints t w total s0) ra
+        (tree x a p (k + 1) n g1 i ind c u m z (bs ++ o) (good .0) hp sx hk (omega arith) ez (omega arith, margin-lt m i (omega arith)) (mode-margin m i (omega arith)) hin
+        (λ y j sm. later xs a (p + length (records x)) k d g i j c2 v m y o (good .1) (omega arith) (stands-length t p (records x) hp sx)
         (stands-right t p (records x) (recordsOf xs) s) hk hi (sm .size) (kept-same z y k d g sm kt)
-        (after-back k d g (p + length (records x) + length (recordsOf xs)) (column (items xs false m w i c2)) z y o (same-down sm) cl))))
+        (after-back k d g (l + v) (p + length (records x) + length (recordsOf xs)) (column (items xs false m w i c2)) z y o (same-down sm) cl))))
 
     -- behind an item of a list
-    pub later : (xs : Trees) (a p k d g i ind c : ℕ) (m : Wrapping) (z o : List ℕ) → Goods xs a → count xs < 4294967296 → p ≤ length t → Stands t p (recordsOf xs)
+    pub later : (xs : Trees) (a p k d g i ind c u : ℕ) (m : Wrapping) (z o : List ℕ) → Goods xs a → count xs < 4294967296 → p ≤ length t → Stands t p (recordsOf xs)
         → k + 1 + a ≤ depthLimit → i + 1 + a ≤ depthLimit → depthLimit ≤ length z → Kept z k d g
-        → After k d g z (p + length (recordsOf xs)) (column (items xs false m w i c)) o
-        → Prints t w (state (past (cur Node p (k + 1) (count xs) (marginAt m i) (leaves w c) ind) p (leaves w c)) z) (bytes (items xs false m w i c) ++ o)
-    later none a p k d g i ind c m z o good hn hp s hk hi ez kt h =
+        → After k d g (lookedOf xs false m w i c + u) z (p + length (recordsOf xs)) (column (items xs false m w i c)) o
+        → Prints t w total (state (past (cur Node p (k + 1) (count xs) (marginAt m i) (leaves w c) ind u) p (leaves w c)) z) (bytes (items xs false m w i c) ++ o)
+    later none a p k d g i ind c u m z o good hn hp s hk hi ez kt h =
         let q : p + 0 ≡ p = omega arith in
         let e : ℕ = column (next (back false m i c) (put (41 ∷ []))) in
-        subst⁻¹ (λ (y : State). Prints t w y (bytes (next (back false m i c) (put (41 ∷ []))) ++ o)) (after-item p k (leaves w c) ind 0 i m z (omega arith))
-        (ended p k d g 0 ind i c m z o kt (subst (λ (j : ℕ). After k d g z j e o) q h z ind (same-refl k z ez)))
-    later (more x xs) a p k d g i ind c m z o good hn hp s hk hi ez kt h =
+        subst⁻¹ (λ (y : State). Prints t w total y (bytes (next (back false m i c) (put (41 ∷ []))) ++ o)) (after-item p k (leaves w c) ind u 0 i m z (omega arith))
+        (ended p k d g 0 ind u i c m z o kt (after-at k d g e z o _ _ _ _ (zero-add u) q h z ind (same-refl k z ez)))
+    later (more x xs) a p k d g i ind c u m z o good hn hp s hk hi ez kt h =
         let n : ℕ = count xs in
         let g1 : ℕ = marginAt m i in
         let ga : List ℕ = bytes (gap false m i c) in
@@ -335,55 +368,59 @@ module _ (t : List ℕ) (hb : Bytes t) (w : ℕ) where
         let bs : List ℕ = bytes (items xs false m w i c2) in
         let ra : ga ++ (bx ++ (bs ++ o)) ≡ (ga ++ (bx ++ bs)) ++ o =
         ap (λ (r : List ℕ). ga ++ r) (sym (append-assoc bx bs o)) ∙ sym (append-assoc ga (bx ++ bs) o) in
-        let s0 : State = st Gap p (k + 1) (suc n) g1 (leaves w c) ind z in
-        let is : state (past (cur Node p (k + 1) (suc n) g1 (leaves w c) ind) p (leaves w c)) z ≡ s0 =
-        after-item p k (leaves w c) ind (suc n) i m z (omega arith) ∙ rw (ne-eqb (suc n) 0 (λ y. omega arith)) refl in
+        let v : ℕ = looked x m w (inner false m i) c1 + u in
+        let l : ℕ = lookedOf xs false m w i c2 in
+        let s0 : State = st Gap p (k + 1) (suc n) g1 (leaves w c) ind u z in
+        let is : state (past (cur Node p (k + 1) (suc n) g1 (leaves w c) ind u) p (leaves w c)) z ≡ s0 =
+        after-item p k (leaves w c) ind u (suc n) i m z (omega arith) ∙ rw (ne-eqb (suc n) 0 (λ y. omega arith)) refl in
         let sx : Stands t p (records x) = stands-left t p (records x) (recordsOf xs) s in
         let q : p + length (records x ++ recordsOf xs) ≡ p + length (records x) + length (recordsOf xs) = simp length-append (omega arith) in
-        let cl : After k d g z (p + length (records x) + length (recordsOf xs)) (column (items xs false m w i c2)) o =
-        subst (λ (j : ℕ). After k d g z j (column (items xs false m w i c2)) o) q h in
-        subst⁻¹ (λ (y : State). Prints t w y ((ga ++ (bx ++ bs)) ++ o)) is
-        (subst (Prints t w s0) ra
-        (gapped p k ind i c n m z (bx ++ (bs ++ o)) (omega arith)
-        (λ j ej. tree x a p (k + 1) n g1 (inner false m i) j c1 m z (bs ++ o) (good .0) hp sx hk (omega (arith, inner-le false m i)) ez
+        let cl : After k d g (l + v) z (p + length (records x) + length (recordsOf xs)) (column (items xs false m w i c2)) o =
+        after-at k d g (column (items xs false m w i c2)) z o _ _ _ _ (both-counts (looked x m w (inner false m i) c1) l u) q h in
+        subst⁻¹ (λ (y : State). Prints t w total y ((ga ++ (bx ++ bs)) ++ o)) is
+        (subst (Prints t w total s0) ra
+        (gapped p k ind u i c n m z (bx ++ (bs ++ o)) (omega arith)
+        (λ j ej. tree x a p (k + 1) n g1 (inner false m i) j c1 u m z (bs ++ o) (good .0) hp sx hk (omega (arith, inner-le false m i)) ez
         (omega arith, margin-lt m i (omega arith)) (mode-margin m i (omega arith)) ej
-        (λ y j2 sm. later xs a (p + length (records x)) k d g i j2 c2 m y o (good .1) (omega arith) (stands-length t p (records x) hp sx)
+        (λ y j2 sm. later xs a (p + length (records x)) k d g i j2 c2 v m y o (good .1) (omega arith) (stands-length t p (records x) hp sx)
         (stands-right t p (records x) (recordsOf xs) s) hk hi (sm .size) (kept-same z y k d g sm kt)
-        (after-back k d g (p + length (records x) + length (recordsOf xs)) (column (items xs false m w i c2)) z y o (same-down sm) cl)))))
+        (after-back k d g (l + v) (p + length (records x) + length (recordsOf xs)) (column (items xs false m w i c2)) z y o (same-down sm) cl)))))
 
   -- ---- the trees of a table, one after the other
 
   -- the LF after a tree, and what follows it
-  line : (xs : Trees) (q l j : ℕ) (z : List ℕ) → Goods xs depthLimit → q ≤ length t → Stands t q (recordsOf xs) → q + length (recordsOf xs) ≡ length t
-      → depthLimit ≤ length z → Prints t w (st Line q 0 0 0 l j z) (10 ∷ pageFrom true xs w)
-  unfolding putOf nextOf Good records pageFrom
-  line none q l j z good hq s e ez =
-      one (st Line q 0 0 0 l j z) (st Done q 0 0 0 l j z) (10 ∷ []) [] refl (refl, refl) refl (omega arith)
-      (rw (le-ltb q (length t) (omega arith)) refl) (over (st Done q 0 0 0 l j z) [] refl refl)
-  line (more x xs) q l j z good hq s e ez =
+  line : (xs : Trees) (q l j u : ℕ) (z : List ℕ) → Goods xs depthLimit → q ≤ length t → Stands t q (recordsOf xs) → q + length (recordsOf xs) ≡ length t
+      → depthLimit ≤ length z → (pageLooked xs w + u) % 2 ^ 32 ≡ total → Prints t w total (st Line q 0 0 0 l j u z) (10 ∷ pageFrom true xs w)
+  unfolding putOf nextOf Good records pageFrom pageLooked
+  line none q l j u z good hq s e ez eu =
+      one (st Line q 0 0 0 l j u z) (st Done q 0 0 0 l j u z) (10 ∷ []) [] refl (refl, refl) refl (omega arith)
+      (rw (le-ltb q (length t) (omega arith)) refl) (over (st Done q 0 0 0 l j u z) [] refl (ap (λ (v : ℕ). v % 2 ^ 32) (sym (zero-add u)) ∙ eu) refl)
+  line (more x xs) q l j u z good hq s e ez eu =
       let low = some x in
       let sx : Stands t q (records x) = stands-left t q (records x) (recordsOf xs) s in
       let sum : length (records x ++ recordsOf xs) ≡ length (records x) + length (recordsOf xs) = length-append (records x) (recordsOf xs) in
       let r : List ℕ = bytes (lay x Wrap w 0 0) ++ (10 ∷ pageFrom true xs w) in
-      one (st Line q 0 0 0 l j z) (st Between q 0 0 0 l j z) (10 ∷ []) ((10 ∷ []) ++ r) refl (refl, refl) refl (omega arith)
+      one (st Line q 0 0 0 l j u z) (st Between q 0 0 0 l j u z) (10 ∷ []) ((10 ∷ []) ++ r) refl (refl, refl) refl (omega arith)
       (rw (lt-ltb q (length t) (omega (arith, sum, low))) refl)
-      (one (st Between q 0 0 0 l j z) (st Node q 0 0 0 (leaves w 0) 0 z) (10 ∷ []) r refl (refl, refl) refl (omega arith) refl
-      (tree x depthLimit q 0 0 0 0 0 0 Wrap z (10 ∷ pageFrom true xs w) (good .0) hq sx (omega arith) (omega arith) ez (lit< tt, lit< tt) refl (λ y. refl)
-      (λ y i sm. line xs (q + length (records x)) (leaves w (column (lay x Wrap w 0 0))) i y (good .1) (stands-length t q (records x) hq sx)
-      (stands-right t q (records x) (recordsOf xs) s) (omega (arith, sum)) (sm .size))))
+      (one (st Between q 0 0 0 l j u z) (st Node q 0 0 0 (leaves w 0) 0 u z) (10 ∷ []) r refl (refl, refl) refl (omega arith) refl
+      (tree x depthLimit q 0 0 0 0 0 0 u Wrap z (10 ∷ pageFrom true xs w) (good .0) hq sx (omega arith) (omega arith) ez (lit< tt, lit< tt) refl (λ y. refl)
+      (λ y i sm. line xs (q + length (records x)) (leaves w (column (lay x Wrap w 0 0))) i (looked x Wrap w 0 0 + u) y (good .1) (stands-length t q (records x) hq sx)
+      (stands-right t q (records x) (recordsOf xs) s) (omega (arith, sum)) (sm .size)
+      (ap (λ (v : ℕ). v % 2 ^ 32) (sym (both-counts (looked x Wrap w 0 0) (pageLooked xs w) u)) ∙ eu))))
 
   -- THE MACHINE FROM ITS START PUTS THE PAGE, whatever the stack holds
-  pub page-puts : (xs : Trees) (s : State) → Goods xs depthLimit → t ≡ recordsOf xs → depthLimit ≤ length (s .stack) → Prints t w (started t w s) (page xs w)
-  unfolding Good records pageFrom
-  page-puts none s good e ez = over (started t w s) [] (rw e refl) refl
-  page-puts (more x xs) s good e ez =
+  pub page-puts : (xs : Trees) (s : State) → Goods xs depthLimit → t ≡ recordsOf xs → depthLimit ≤ length (s .stack) → pageLooked xs w % 2 ^ 32 ≡ total
+      → Prints t w total (started t w s) (page xs w)
+  unfolding Good records pageFrom pageLooked
+  page-puts none s good e ez eu = over (started t w s) [] (rw e refl) eu refl
+  page-puts (more x xs) s good e ez eu =
       let low = some x in
       let h : Stands t 0 (records x ++ recordsOf xs) =
       e ∙ sym (append-nil (records x ++ recordsOf xs)) ∙ ap (λ (r : List ℕ). (records x ++ recordsOf xs) ++ r) (sym (drop-of-length-le t {i = 0 + length (records x ++ recordsOf xs)} (omega (arith, ap length e)))) in
       let sum : length t ≡ length (records x) + length (recordsOf xs) = ap length e ∙ length-append (records x) (recordsOf xs) in
       let sx : Stands t 0 (records x) = stands-left t 0 (records x) (recordsOf xs) h in
-      let b : started t w s ≡ st Node 0 0 0 0 (leaves w 0) 0 (s .stack) = rw (ne-eqb (length t) 0 (λ y. omega (arith, sum, low))) refl in
-      subst⁻¹ (λ (y : State). Prints t w y (bytes (lay x Wrap w 0 0) ++ (10 ∷ pageFrom true xs w))) b
-      (tree x depthLimit 0 0 0 0 0 0 0 Wrap (s .stack) (10 ∷ pageFrom true xs w) (good .0) (omega arith) sx (omega arith) (omega arith) ez (lit< tt, lit< tt) refl (λ y. refl)
-      (λ y i sm. line xs (0 + length (records x)) (leaves w (column (lay x Wrap w 0 0))) i y (good .1) (omega (arith, sum))
-      (stands-right t 0 (records x) (recordsOf xs) h) (omega (arith, sum)) (sm .size)))
+      let b : started t w s ≡ st Node 0 0 0 0 (leaves w 0) 0 0 (s .stack) = rw (ne-eqb (length t) 0 (λ y. omega (arith, sum, low))) refl in
+      subst⁻¹ (λ (y : State). Prints t w total y (bytes (lay x Wrap w 0 0) ++ (10 ∷ pageFrom true xs w))) b
+      (tree x depthLimit 0 0 0 0 0 0 0 0 Wrap (s .stack) (10 ∷ pageFrom true xs w) (good .0) (omega arith) sx (omega arith) (omega arith) ez (lit< tt, lit< tt) refl (λ y. refl)
+      (λ y i sm. line xs (0 + length (records x)) (leaves w (column (lay x Wrap w 0 0))) i (looked x Wrap w 0 0 + 0) y (good .1) (omega (arith, sum))
+      (stands-right t 0 (records x) (recordsOf xs) h) (omega (arith, sum)) (sm .size) (omega (arith, eu))))

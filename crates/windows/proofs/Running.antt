@@ -121,7 +121,7 @@ module _ (t : List ℕ) (w : ℕ) (s₀ : State) (b₀ b : List ℕ) (c : Cursor
 -- ---- a call
 
 module _ (t : List ℕ) (w : ℕ) (s at : State) (b : List ℕ) where
-  pub go-end : (d : Bool) → d ≡ isDone (at .cursor .phase) → d ≡ true → call (ok end) at b ≡ goOn t w s at b
+  pub go-end : (d : Bool) → d ≡ isDone (at .cursor .phase) → d ≡ true → call (ok (end (at .cursor .looked))) at b ≡ goOn t w s at b
   go-end d e f = rw (sym e ∙ f) refl
 
   pub go-none : (d : Bool) → d ≡ isDone (at .cursor .phase) → d ≡ false → length b ≡ 0 → call (ok (part 0)) s b ≡ goOn t w s at b

@@ -23,11 +23,11 @@ GivenWithin = (t : List ℕ) (w : ℕ) (s : State) (b : List ℕ) → Within (fi
 abbrev pub NoRoom : Type 0
 NoRoom = (t : List ℕ) (w : ℕ) (s : State) (b : List ℕ) (n : ℕ) → length b ≡ 0 → fillOf t w s b .answer ≡ ok (part n) → fillOf t w s b ≡ call (ok (part 0)) s b
 
--- the end is answered for good: each later call, whatever its window, answers it and changes nothing
+-- the end is answered for good: each later call, whatever its window, answers it with the same number and changes nothing
 abbrev pub EndStays : Type 0
 EndStays =
-    (t : List ℕ) (w : ℕ) (s : State) (b b′ : List ℕ) → fillOf t w s b .answer ≡ ok end
-    → fillOf t w (fillOf t w s b .state) b′ ≡ call (ok end) (fillOf t w s b .state) b′
+    (t : List ℕ) (w : ℕ) (s : State) (b b′ : List ℕ) (k : ℕ) → fillOf t w s b .answer ≡ ok (end k)
+    → fillOf t w (fillOf t w s b .state) b′ ≡ call (ok (end k)) (fillOf t w s b .state) b′
 
 -- only the first call refuses, for a fault of the table, and then it changes no byte and gives the state back as it came
 abbrev pub RefusedAtFirst : Type 0

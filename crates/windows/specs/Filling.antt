@@ -41,10 +41,10 @@ unfoldable pub run : ℕ → List ℕ → ℕ → State → ℕ → Ran
 run zero t w s n = ran [] s
 run (suc k) t w s n = cond (isDone (s .cursor .phase) || eqb n 0) (ran [] s) (before (turn t w s n) (λ s′. run k t w s′ (n - length (turn t w s n .out))))
 
--- a call that does not refuse gives the next bytes, so many of them, or answers the end
+-- a call that does not refuse gives the next bytes, so many of them, or answers the end, with the records that the fits test looked at (document 02, 3/12)
 pub data Part : Type 0 where
   part : ℕ → Part
-  end : Part
+  end : ℕ → Part
 
 abbrev pub Answer : Type 0
 Answer = Result Part
@@ -65,7 +65,7 @@ filled r b = call (ok (part (length (r .out)))) (r .state) (over (r .out) b)
 -- a call that came with the state s and goes on from the state at: with no room it moves nothing
 abbrev pub goOn : List ℕ → ℕ → State → State → List ℕ → Call
 goOn t w s at b =
-    cond (isDone (at .cursor .phase)) (call (ok end) at b)
+    cond (isDone (at .cursor .phase)) (call (ok (end (at .cursor .looked))) at b)
     (cond (eqb (length b) 0) (call (ok (part 0)) s b) (filled (run (length b) t w at (length b)) b))
 
 -- the first call refuses as the printer does but for room, and then gives the state back as it came
@@ -79,7 +79,7 @@ fillOf t w s b = cond (isFresh (s .cursor .phase)) (first t w s b (tableOf true 
 -- document 01's number and values for each case of the answer's enum, and what a call returned, its stack by value or lent
 abbrev pub answerOf : CodeAnswer → Answer
 answerOf (code.Bytes n) = ok (part n)
-answerOf code.End = ok end
+answerOf (code.End k) = ok (end k)
 answerOf (code.Refused r) = refusedBy r
 
 abbrev pub callOf : CodeFilled → List ℕ → Call
@@ -92,7 +92,7 @@ callAt m s b = call (answerOf (m .answer)) (state (m .cursor) s) b
 
 abbrev pub givenBy : Answer → ℕ
 givenBy (ok (part n)) = n
-givenBy (ok end) = 0
+givenBy (ok (end k)) = 0
 givenBy (refused n a) = 0
 
 abbrev pub handed : Call → Ran
@@ -102,10 +102,10 @@ unfoldable pub calls : List ℕ → ℕ → State → List (List ℕ) → Ran
 calls t w s [] = ran [] s
 calls t w s (b ∷ bs) = before (handed (fillOf t w s b)) (λ s′. calls t w s′ bs)
 
--- what a call with a window of n bytes answers where the bytes o are left
-abbrev pub answerFor : List ℕ → ℕ → Answer
-answerFor [] n = ok end
-answerFor (b ∷ o) n = ok (part (length (take n (b ∷ o))))
+-- what a call with a window of n bytes answers where the bytes o are left of a print whose fits test looks at k records
+abbrev pub answerFor : List ℕ → ℕ → ℕ → Answer
+answerFor [] k n = ok (end k)
+answerFor (b ∷ o) k n = ok (part (length (take n (b ∷ o))))
 
 -- the bytes that the windows hold together
 unfoldable pub room : List (List ℕ) → ℕ

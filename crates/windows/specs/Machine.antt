@@ -1,5 +1,5 @@
 -- A machine that puts the text of a table piece by piece (document 02, 2/12): what is put next, and the state after it. Total on any bytes and any state.
-use Prim.Native.Nat.{ℕ, _+_, _*_, _-_, _/_, _%_}
+use Prim.Native.Nat.{ℕ, _+_, _*_, _-_, _/_, _%_, _^_}
 use mathlib.Core.Bool.{Bool, true, false, cond}
 use mathlib.Core.List.{List, [], _∷_}
 use lib.ListN.{length, getD, set, replicate}
@@ -13,7 +13,8 @@ use Rattle.table.specs.declared.Record.{Record}
 use Rattle.table.specs.declared.Record.the-variants.{Symbol, Integer, Binding, List as ListOf, Bad}
 use Rattle.table.specs.Records.{recordAt}
 use Rattle.printer.specs.Layout.{Wrapping, Wrap, SingleLine, bytes, breakColumn, nl}
-use Rattle.printer.specs.Fitting.{fitsAt}
+use Rattle.printer.specs.declared.cost.Tested.{Tested}
+use Rattle.printer.specs.Fitting.{tested, fitsAt}
 pub use Rattle.windows.specs.declared.Phase.{Phase}
 pub use Rattle.windows.specs.declared.Phase.the-variants.{Fresh, Node, Sign, Gap, Back, Close, Line, Between, Done}
 pub use Rattle.windows.specs.declared.Cursor.{Cursor}
@@ -95,6 +96,7 @@ moved c f p l = record {
   at = p;
   depth = c .depth;
   due = c .due;
+  looked = c .looked;
   margin = c .margin;
   left = l;
   indent = c .indent;
@@ -112,13 +114,17 @@ afterPhase c = cond (eqb (c .depth) 0) Line (cond (eqb (c .due) 0) (closePhase (
 abbrev pub past : Cursor → ℕ → ℕ → Cursor
 past c p l = moved c (afterPhase c) p l
 
--- a list is on a single line if the one around it is, or if it fits; what a column leaves of the line leaves that column, or one past the width
-abbrev pub flat : Wrapping → Bool → Bool
-flat SingleLine fit = true
-flat Wrap fit = fit
+-- the test of a list: inside one that is on a single line there is none, and it is on that line too; what a column leaves of the line leaves that column, or one past the width
+abbrev pub testFor : List ℕ → ℕ → Cursor → Wrapping → Tested
+testFor t w c SingleLine = tested true 0
+testFor t w c Wrap = fitsAt t (c .at) w (leaves w (c .left))
 
-abbrev pub marginFor : List ℕ → ℕ → Cursor → ℕ
-marginFor t w c = cond (flat (modeOf (c .margin)) (fitsAt t (c .at) w (leaves w (c .left)))) singleMargin (c .indent)
+abbrev pub marginFor : Bool → ℕ → ℕ
+marginFor single i = cond single singleMargin i
+
+-- a count in a state is held in 32 bits; what calls come to is below 2^32
+abbrev pub plus : ℕ → ℕ → ℕ
+plus a b = (a + b) % 2 ^ 32
 
 -- what the stack holds of a list, and its two parts
 abbrev pub held : ℕ → ℕ → ℕ
@@ -130,14 +136,15 @@ heldDue x = x % 4294967296
 abbrev pub heldMargin : ℕ → ℕ
 heldMargin x = x / 4294967296 % 256
 
--- behind the `(` of a list of n items
-abbrev pub opened : Cursor → ℕ → ℕ → Cursor
-opened c n g = record {
+-- behind the `(` of a list of n items that was tested
+abbrev pub opened : Cursor → ℕ → Tested → Cursor
+opened c n x = record {
   phase = cond (eqb n 0) Close Node;
   at = c .at + listLen;
   depth = c .depth + 1;
   due = n - 1;
-  margin = g;
+  looked = plus (c .looked) (x .looked);
+  margin = marginFor (x .fits) (c .indent);
   left = c .left - 1;
   indent = c .indent;
   given = 0;
@@ -147,7 +154,7 @@ opened c n g = record {
 abbrev pub listNext : List ℕ → ℕ → State → ℕ → State
 listNext t w s n =
     cond (ltb (s .cursor .depth) depthLimit)
-    (state (opened (s .cursor) n (marginFor t w (s .cursor))) (set (s .stack) (s .cursor .depth) (held (s .cursor .due) (s .cursor .margin))))
+    (state (opened (s .cursor) n (testFor t w (s .cursor) (modeOf (s .cursor .margin)))) (set (s .stack) (s .cursor .depth) (held (s .cursor .due) (s .cursor .margin))))
     (state (moved (s .cursor) Done (s .cursor .at) (s .cursor .left)) (s .stack))
 
 -- of a state the cursor alone changes
@@ -168,6 +175,7 @@ taken c l i = record {
   at = c .at;
   depth = c .depth;
   due = c .due - 1;
+  looked = c .looked;
   margin = c .margin;
   left = l;
   indent = i;
@@ -188,6 +196,7 @@ popped c s = record {
   at = c .at;
   depth = c .depth - 1;
   due = heldDue (getD s (c .depth - 1) 0);
+  looked = c .looked;
   margin = heldMargin (getD s (c .depth - 1) 0);
   left = c .left;
   indent = c .indent;
@@ -201,6 +210,7 @@ begin c w = record {
   at = c .at;
   depth = c .depth;
   due = c .due;
+  looked = c .looked;
   margin = c .margin;
   left = leaves w 0;
   indent = 0;
@@ -228,6 +238,7 @@ regiven c g = record {
   at = c .at;
   depth = c .depth;
   due = c .due;
+  looked = c .looked;
   margin = c .margin;
   left = c .left;
   indent = c .indent;
@@ -242,6 +253,7 @@ freshState = state (record {
   at = 0;
   depth = 0;
   due = 0;
+  looked = 0;
   margin = 0;
   left = 0;
   indent = 0;
@@ -258,6 +270,7 @@ startCursor n w = record {
   at = 0;
   depth = 0;
   due = 0;
+  looked = 0;
   margin = 0;
   left = leaves w 0;
   indent = 0;

@@ -35,8 +35,11 @@ pub struct Cursor {
     pub at: usize,
     // The lists that are open.
     pub depth: usize,
-    // Of the innermost: the items still due, and its indent, or 255 if it is on a single line.
+    // Of the innermost the items still due.
     pub due: u32,
+    // The records that the fits test has looked at.
+    pub looked: u32,
+    // Of the innermost its indent, or 255 if it is on a single line.
     pub margin: u8,
     // Width + 1 - column: 0 past the width.
     pub left: usize,
@@ -55,7 +58,8 @@ pub struct State {
 pub enum Answer {
     // Bytes given: the front of the window.
     Bytes(usize),
-    End,
+    // The records that the fits test looked at.
+    End(usize),
     Refused(Refusal),
 }
 
@@ -78,6 +82,7 @@ pub fn fresh() -> State
         at: 0,
         depth: 0,
         due: 0,
+        looked: 0,
         margin: 0,
         left: 0,
         indent: 0,
@@ -98,6 +103,7 @@ fn start(n: usize, width: u32) -> Cursor
         at: 0,
         depth: 0,
         due: 0,
+        looked: 0,
         margin: 0,
         left: width as usize + 1,
         indent: 0,
@@ -171,8 +177,9 @@ fn go_on(
 {
     let phase = from.phase;
     if machine::is_done(phase) {
+        let looked = from.looked as usize;
         return Moved {
-            answer: Answer::End,
+            answer: Answer::End(looked),
             cursor: from,
         };
     }

@@ -2,6 +2,7 @@
 use crate::Cursor;
 use crate::Phase;
 use printer::cost;
+use printer::cost::Tested;
 use table::Record;
 ghost use mathlib.Core.Path.{_≡_};
 ghost use mathlib.Core.Bool.{false, cond};
@@ -11,7 +12,7 @@ ghost use lib.ListN.{length, getD, set};
 ghost use Rattle.refusals.specs.Numbers.{depthLimit};
 ghost use Rattle.table.specs.Kinds.{listLen};
 ghost use Rattle.table.specs.Records.{recordAt};
-ghost use Rattle.windows.specs.Machine.{Close, Node, Between, Done, state, isDone, isFresh, broken as brokenOf, held as heldOf, heldDue, heldMargin, moved as movedOf, afterPhase, past as pastOf, firstPhase, marginFor, opened as openedOf, listNext, nodeNext, taken as takenOf, gapNext, popped as poppedOf, begin as beginOf, nextOf};
+ghost use Rattle.windows.specs.Machine.{Close, Node, Between, Done, state, isDone, isFresh, broken as brokenOf, held as heldOf, heldDue, heldMargin, moved as movedOf, afterPhase, past as pastOf, firstPhase, testFor, modeOf, marginFor, plus as plusOf, opened as openedOf, listNext, nodeNext, taken as takenOf, gapNext, popped as poppedOf, begin as beginOf, nextOf};
 
 pub fn is_done(phase: Phase) -> bool
     ensures { λ r. ⌜ r ≡ isDone phase ⌝ }
@@ -67,6 +68,7 @@ fn moved(c: Cursor, phase: Phase, at: usize, left: usize) -> Cursor
         left,
         indent: c.indent,
         given: 0,
+        looked: c.looked,
     }
 }
 
@@ -135,17 +137,27 @@ fn past(c: Cursor, at: usize, left: usize) -> Cursor
     moved(c, after(c), at, left)
 }
 
-// The margin of a list at the place of `c`: 255 if it is on a single line.
-fn margin_for(t: &[u8], width: u32, c: Cursor) -> u8
-    ensures { λ r. ⌜ r ≡ marginFor (now (t .entry)) width c ⌝ }
+// The test of a list at the place of `c`: inside one that is on a single line there is none, and it is on that line too.
+fn test_for(t: &[u8], width: u32, c: Cursor) -> Tested
+    ensures { λ r. ⌜ r ≡ testFor (now (t .entry)) width c (modeOf (c .margin)) ⌝ }
 {
     if c.margin == 255 {
+        return Tested {
+            fits: true,
+            looked: 0,
+        };
+    }
+    cost::fits(t, c.at, width, lists::less(width as usize + 1, c.left))
+}
+
+// The margin of a list at an indent: 255 if it is on a single line.
+fn margin_for(single: bool, indent: u8) -> u8
+    ensures { λ r. ⌜ r ≡ marginFor single indent ⌝ }
+{
+    if single {
         return 255;
     }
-    if cost::fits(t, c.at, width, lists::less(width as usize + 1, c.left)) {
-        return 255;
-    }
-    c.indent
+    indent
 }
 
 fn item_phase(n: usize) -> Phase
@@ -166,16 +178,24 @@ fn one_less(n: u32) -> u32
     n - 1
 }
 
-fn opened(c: Cursor, n: u32, g: u8) -> Cursor
+// So many records more, in 32 bits.
+fn plus(looked: u32, more: usize) -> u32
+    ensures { λ r. ⌜ r ≡ plusOf looked more ⌝ }
+{
+    std::num::wrapping_add_u32(looked, (more % 4294967296) as u32)
+}
+
+fn opened(c: Cursor, n: u32, x: Tested) -> Cursor
     requires { ⌜ (c .depth < depthLimit) × (c .at + listLen < 18446744073709551616) ⌝ }
-    ensures { λ r. ⌜ r ≡ openedOf c n g ⌝ }
+    ensures { λ r. ⌜ r ≡ openedOf c n x ⌝ }
 {
     Cursor {
         phase: item_phase(n as usize),
         at: c.at + table::LIST_LEN,
         depth: c.depth + 1,
         due: one_less(n),
-        margin: g,
+        looked: plus(c.looked, x.looked),
+        margin: margin_for(x.fits, c.indent),
         left: lists::less(c.left, 1),
         indent: c.indent,
         given: 0,
@@ -189,7 +209,7 @@ fn list_next(t: &[u8], width: u32, c: Cursor, n: u32, stack: &mut [u64]) -> Curs
 {
     if c.depth < refusals::DEPTH_LIMIT {
         set_word(stack, c.depth, held(c.due, c.margin));
-        return opened(c, n, margin_for(t, width, c));
+        return opened(c, n, test_for(t, width, c));
     }
     moved(c, Phase::Done, c.at, c.left)
 }
@@ -231,6 +251,7 @@ fn taken(c: Cursor, left: usize, indent: u8) -> Cursor
         left,
         indent,
         given: 0,
+        looked: c.looked,
     }
 }
 
@@ -255,6 +276,7 @@ fn popped(c: Cursor, stack: &[u64]) -> Cursor
         at: c.at,
         depth: k,
         due: held_due(x),
+        looked: c.looked,
         margin: held_margin(x),
         left: c.left,
         indent: c.indent,
@@ -270,6 +292,7 @@ fn begin(c: Cursor, width: u32) -> Cursor
         at: c.at,
         depth: c.depth,
         due: c.due,
+        looked: c.looked,
         margin: c.margin,
         left: width as usize + 1,
         indent: 0,

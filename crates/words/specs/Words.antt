@@ -35,7 +35,7 @@ moreAnswer = 7
 abbrev pub doneAnswer : ℕ
 doneAnswer = 8
 
--- kind; a start or a place; a length or a refusal's number; an integer's high and low 64 bits (two's complement); bytes consumed; the last two are to spare
+-- kind; a start or a place; a length or a refusal's number; an integer's high and low 64 bits (two's complement); bytes consumed; a count, below; the last is to spare
 abbrev pub eight : ℕ → ℕ → ℕ → ℕ → ℕ → ℕ → List ℕ
 eight k p n h l u = k ∷ p ∷ n ∷ h ∷ l ∷ u ∷ 0 ∷ 0 ∷ []
 
@@ -77,6 +77,16 @@ refusedWords n a u = eight refusedAnswer a n 0 0 u
 -- so many bytes were written into the room lent
 abbrev pub doneWords : ℕ → List ℕ
 doneWords n = eight doneAnswer 0 n 0 0 0
+
+-- a text was written, or the end of one answered: with the records that the fits test looked at
+abbrev pub countedWords : ℕ → ℕ → ℕ → List ℕ
+countedWords k n c = k ∷ 0 ∷ n ∷ 0 ∷ 0 ∷ 0 ∷ c ∷ 0 ∷ []
+
+abbrev pub textWords : ℕ → ℕ → List ℕ
+textWords n c = countedWords doneAnswer n c
+
+abbrev pub endedWords : ℕ → List ℕ
+endedWords c = countedWords endAnswer 0 c
 
 -- of the uncut lexer's answer
 unfoldable pub answerWords : Answer → List ℕ

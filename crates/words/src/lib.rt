@@ -1,4 +1,4 @@
-// Every answer of the doors for C as eight words: kind; start or place; length or number; an integer's high and low 64 bits; bytes consumed; two to spare.
+// Every answer of the doors for C as eight words: kind; start or place; length or number; an integer's high and low 64 bits; bytes consumed; a count; one to spare.
 use feeder::Answer;
 use feeder::Out;
 use lexer::Lexed;
@@ -7,7 +7,7 @@ use refusals::Refusal;
 ghost use mathlib.Core.Path.{_≡_};
 ghost use Rattle.lexer.specs.Tokens.{tokenOf, answerOf};
 ghost use Rattle.feeder.specs.Feeding.{replyOf};
-ghost use Rattle.words.specs.Words.{kindWord, tokenWords, refusedWords, doneWords, answerWords, replyWords};
+ghost use Rattle.words.specs.Words.{kindWord, tokenWords, refusedWords, doneWords, textWords, answerWords, replyWords};
 
 pub const END: u64 = 0;
 
@@ -98,6 +98,13 @@ pub fn put_length(n: usize, answer: &mut [u64; 8])
     ensures { λ _. ⌜ now (answer .exit) ≡ doneWords n ⌝ }
 {
     *answer = [DONE, 0, n as u64, 0, 0, 0, 0, 0];
+}
+
+// The same of a text, with the records that the fits test looked at.
+pub fn put_text(n: usize, looked: usize, answer: &mut [u64; 8])
+    ensures { λ _. ⌜ now (answer .exit) ≡ textWords n looked ⌝ }
+{
+    *answer = [DONE, 0, n as u64, 0, 0, 0, looked as u64, 0];
 }
 
 // The uncut lexer's answer.

@@ -2,6 +2,7 @@
 //!
 //! A source at hand is lexed by [`tokens`] or [`next_token`]; one that comes in pieces by a [`Feeder`].
 //! [`read`] makes a table of a source's trees, and [`print`] lays a table out at a width; [`Printing`] does so window by window.
+//! A print also says how much it looked at to choose its lines: [`Text::looked`].
 //! A refusal is an [`Error`]: a number (by name in [`numbers`]), a place, and words with line, column and a caret.
 //!
 //! ```
@@ -26,6 +27,6 @@ mod windows;
 pub use error::{Error, Within};
 pub use feed::{FeedError, Feeder, Parts, TokensFrom};
 pub use lex::{Tokens, next_token, tokens};
-pub use tables::{print, print_into, read, read_into};
+pub use tables::{Printed, Text, print, print_into, read, read_into};
 pub use token::{Answer, Kind, Token};
 pub use windows::Printing;

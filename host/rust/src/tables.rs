@@ -4,6 +4,29 @@ use crate::error::Error;
 use crate::ffi::{self, Words, kind};
 use crate::numbers;
 
+/// A text, and what it took to lay it out.
+#[derive(Clone, Debug, PartialEq, Eq)]
+pub struct Text {
+    pub bytes: Vec<u8>,
+    /// How many records the fits test looked at.
+    ///
+    /// A list goes on one line if it fits there, with all that is inside it. To see whether it does, its records are looked at in
+    /// order, up to and including the one that settles that it does not, or all of them; none where the line is already too long.
+    /// In a list that does not fit, each list is then tested in its turn.
+    ///
+    /// So a number below that of the table's records, or about as large, says that lists fit or are soon seen not to. One that is
+    /// many times as large says that what stands deep in lists is looked at again and again, once for each list around it that
+    /// is just too long: there flatter rules, or another width, print with less work. It is never above 64 times the records.
+    pub looked: u64,
+}
+
+/// A text that was written into a room: its length, and [`looked`](Text::looked) as a text has it.
+#[derive(Clone, Copy, Debug, PartialEq, Eq)]
+pub struct Printed {
+    pub len: usize,
+    pub looked: u64,
+}
+
 /// Reads the trees of `source` into a table in `room` and gives the table's length. Where the room is too small, the refusal is
 /// 14, its place is the bytes needed, and the room stays as it was.
 pub fn read_into(source: &[u8], room: &mut [u8]) -> Result<usize, Error> {
@@ -27,32 +50,44 @@ pub fn read(source: &[u8]) -> Result<Vec<u8>, Error> {
     grown(2 * source.len() + 64, numbers::TABLE_ROOM, |room| read_into(source, room))
 }
 
-/// Prints `table` at a width into `room` and gives the text's length. Where the room is too small, the refusal is 18, its place
-/// is the bytes needed, and the room stays as it was.
-pub fn print_into(table: &[u8], width: u32, room: &mut [u8]) -> Result<usize, Error> {
+/// Prints `table` at a width into `room` and gives the text's length and count. Where the room is too small, the refusal is 18,
+/// its place is the bytes needed, and the room stays as it was.
+pub fn print_into(table: &[u8], width: u32, room: &mut [u8]) -> Result<Printed, Error> {
     // SAFETY: as in `read_into`.
     let words = unsafe {
         ffi::written(|answer| {
             ffi::tulbazhik_print(table.as_ptr(), table.len(), width, room.as_mut_ptr(), room.len(), answer)
         })
     };
-    length_of(words)
+    let [.., looked, _] = words;
+    Ok(Printed { len: length_of(words)?, looked })
 }
 
 /// The text of a table at a width.
 ///
 /// ```
 /// let table = tulbazhik::read(b"(rule (a b) c)")?;
-/// assert_eq!(tulbazhik::print(&table, 14)?, b"(rule (a b) c)\n");
-/// assert_eq!(tulbazhik::print(&table, 13)?, b"(rule\n    (a b)\n    c\n)\n");
+/// let text = tulbazhik::print(&table, 14)?;
+/// assert_eq!(text.bytes, b"(rule (a b) c)\n");
+/// assert_eq!(text.looked, 6); // the table's records, each once: nothing is tested inside a list that fits
+///
+/// let text = tulbazhik::print(&table, 13)?;
+/// assert_eq!(text.bytes, b"(rule\n    (a b)\n    c\n)\n");
+/// assert_eq!(text.looked, 9); // all six to see that the list is too long by one, and the three of `(a b)`
 ///
 /// // a table that the link cut off between two records
 /// let error = tulbazhik::print(&table[..table.len() - 7], 14).expect_err("an item is missing");
 /// assert_eq!(error.to_string(), "refusal 22 at 44: trees are missing at the table's end");
 /// # Ok::<(), tulbazhik::Error>(())
 /// ```
-pub fn print(table: &[u8], width: u32) -> Result<Vec<u8>, Error> {
-    grown(table.len() + 64, numbers::PRINT_ROOM, |room| print_into(table, width, room))
+pub fn print(table: &[u8], width: u32) -> Result<Text, Error> {
+    let mut looked = 0;
+    let bytes = grown(table.len() + 64, numbers::PRINT_ROOM, |room| {
+        let printed = print_into(table, width, room)?;
+        looked = printed.looked;
+        Ok(printed.len)
+    })?;
+    Ok(Text { bytes, looked })
 }
 
 /// The length of what was written, or the refusal.

@@ -18,6 +18,7 @@ use crate::ffi::{self, PrintWords, kind};
 /// assert_eq!(printing.fill(&mut window)?, Some(7));
 /// assert_eq!(&window, b" b) c)\na"); // the last byte is the first window's
 /// assert_eq!(printing.fill(&mut window)?, None);
+/// assert_eq!(printing.looked(), Some(6));
 /// # Ok::<(), tulbazhik::Error>(())
 /// ```
 ///
@@ -37,6 +38,8 @@ pub struct Printing<'t> {
     table: &'t [u8],
     width: u32,
     state: PrintWords,
+    /// What the end came with.
+    looked: Option<u64>,
 }
 
 impl<'t> Printing<'t> {
@@ -61,12 +64,28 @@ impl<'t> Printing<'t> {
     /// # Ok::<(), tulbazhik::Error>(())
     /// ```
     pub fn resume(table: &'t [u8], width: u32, state: [u64; 72]) -> Printing<'t> {
-        Printing { table, width, state }
+        Printing { table, width, state, looked: None }
     }
 
-    /// Where the print stands: plain data, to be stored or sent. Zeros before the first call.
+    /// Where the print stands: plain data, to be stored or sent, for a print by the same version. Zeros before the first call.
     pub fn state(&self) -> [u64; 72] {
         self.state
+    }
+
+    /// How many records the fits test looked at: the number that [`print`](crate::print) gives as [`looked`](crate::Text::looked).
+    /// None before the end was answered.
+    ///
+    /// ```
+    /// use std::io;
+    ///
+    /// let table = tulbazhik::read(b"(rule (a b) c)").expect("no refusal");
+    /// let (mut printing, mut out) = (tulbazhik::Printing::new(&table, 13), Vec::new());
+    /// io::copy(&mut printing, &mut out)?;
+    /// assert_eq!(printing.looked(), Some(9));
+    /// # Ok::<(), io::Error>(())
+    /// ```
+    pub fn looked(&self) -> Option<u64> {
+        self.looked
     }
 
     /// Puts the next bytes of the text into the front of `window` and gives their number: as many as the window holds or as are
@@ -90,7 +109,10 @@ impl<'t> Printing<'t> {
         };
         match words {
             [kind::DONE, _, length, ..] => Ok(Some(length as usize)),
-            [kind::END, ..] => Ok(None),
+            [kind::END, .., looked, _] => {
+                self.looked = Some(looked);
+                Ok(None)
+            }
             _ => Err(Error::of_words(words)),
         }
     }

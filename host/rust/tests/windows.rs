@@ -2,7 +2,7 @@
 
 use std::io::{self, ErrorKind, Read, Write};
 
-use tulbazhik::{Error, Printing, numbers, print, read};
+use tulbazhik::{Error, Printing, Text, numbers, print, read};
 
 const SOURCE: &[u8] = b"(rule 1 (lower (iadd x y @ (imm 0xff))) (add x -12)) () a @ b\n(decl f (T U) R)";
 
@@ -10,10 +10,11 @@ const SOURCE: &[u8] = b"(rule 1 (lower (iadd x y @ (imm 0xff))) (add x -12)) () 
 fn windows_of_every_length_give_the_text() {
     let table = read(SOURCE).expect("no refusal");
     for width in [0, 20, 40, 100, u32::MAX] {
-        let text = print(&table, width).expect("no refusal");
+        let Text { bytes: text, looked } = print(&table, width).expect("no refusal");
         for size in 1..text.len() + 2 {
             let (mut printing, mut window) = (Printing::new(&table, width), vec![b'#'; size]);
             let mut joined: Vec<u8> = Vec::new();
+            assert_eq!(printing.looked(), None, "the count comes with the end");
             while let Some(n) = printing.fill(&mut window).expect("no refusal") {
                 assert_eq!(
                     n,
@@ -31,7 +32,10 @@ fn windows_of_every_length_give_the_text() {
                 assert_eq!(printing.state(), state, "no room moves nothing");
             }
             assert_eq!(joined, text, "width {width}, windows of {size}");
+            assert_eq!(printing.looked(), Some(looked), "width {width}, windows of {size}");
             assert_eq!(printing.fill(&mut window), Ok(None), "the end stays");
+            let mut again = Printing::resume(&table, width, printing.state());
+            assert_eq!((again.looked(), again.fill(&mut []), again.looked()), (None, Ok(None), Some(looked)));
         }
     }
 }
@@ -65,7 +69,8 @@ fn a_table_that_is_too_long_is_refused() {
 
 #[test]
 fn an_empty_table_ends_at_once() {
-    assert_eq!(Printing::new(&[], 100).fill(&mut []), Ok(None));
+    let mut printing = Printing::new(&[], 100);
+    assert_eq!((printing.fill(&mut []), printing.looked()), (Ok(None), Some(0)));
     assert_eq!(Printing::new(&[], 100).write_to(&mut Vec::new()).expect("nothing to write"), 0);
 }
 
@@ -95,7 +100,7 @@ impl Write for Slow {
 #[test]
 fn a_writer_that_fails_loses_no_byte() {
     let table = read(&SOURCE.repeat(100)).expect("no refusal");
-    let text = print(&table, 40).expect("no refusal");
+    let Text { bytes: text, looked } = print(&table, 40).expect("no refusal");
     assert!(text.len() > 2 * 4096, "more than one window");
     let fails = [ErrorKind::WouldBlock, ErrorKind::Interrupted];
     let (mut printing, mut out) = (Printing::new(&table, 40), Slow { taken: Vec::new(), fails, calls: 0 });
@@ -105,13 +110,13 @@ fn a_writer_that_fails_loses_no_byte() {
             Err(error) => assert!(matches!(error.kind(), ErrorKind::WouldBlock | ErrorKind::WriteZero)),
         }
     }
-    assert_eq!(out.taken, text);
+    assert_eq!((out.taken, printing.looked()), (text, Some(looked)), "what is taken back is counted once");
 }
 
 #[test]
 fn it_copies_and_writes_to_anything() {
     let table = read(&SOURCE.repeat(100)).expect("no refusal");
-    let text = print(&table, 100).expect("no refusal");
+    let text = print(&table, 100).expect("no refusal").bytes;
     let (mut copied, mut written) = (Vec::new(), Vec::new());
     let n = io::copy(&mut Printing::new(&table, 100), &mut copied).expect("a vector takes every byte");
     assert_eq!((n, &copied), (text.len() as u64, &text));

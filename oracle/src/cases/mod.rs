@@ -3,6 +3,7 @@
 mod comments;
 mod limit;
 mod literals;
+mod looks;
 mod masks;
 mod pieces;
 mod source_trees;
@@ -24,7 +25,7 @@ use tables::SmallTrees;
 /// Real ISLE text to cut sources from, where it is at hand.
 const REAL: &str = concat!(env!("CARGO_MANIFEST_DIR"), "/../../shared/bench/real.isle");
 
-/// How often each family comes up among sources and among tables.
+/// How often each family comes up among sources, among tables, and among tables whose print is counted.
 const SOURCES: &[(&str, usize)] = &[
     ("pieces", 8),
     ("literals", 3),
@@ -36,6 +37,7 @@ const SOURCES: &[(&str, usize)] = &[
     ("real", 1),
 ];
 const TABLES: &[(&str, usize)] = &[("small", 4), ("tables", 3), ("broken", 3)];
+const COUNTED: &[(&str, usize)] = &[("small", 4), ("tables", 3), ("broken", 2), ("looks", 4)];
 
 /// One source at the length limit in so many cases: each is a megabyte.
 const LIMIT_EVERY: u64 = 2000;
@@ -44,6 +46,7 @@ pub struct Cases {
     seed: u64,
     sources: Vec<&'static str>,
     tables: Vec<&'static str>,
+    counted: Vec<&'static str>,
     limit: bool,
     /// A sample is to be small and varied; otherwise the enumerated families go through in order.
     sample: bool,
@@ -56,8 +59,10 @@ pub struct Cases {
 impl Cases {
     pub fn new(seed: u64, families: &[String], sample: bool) -> Result<Cases, String> {
         let chosen = |name: &str| families.is_empty() || families.iter().any(|family| family == name);
-        let known =
-            |name: &str| SOURCES.iter().chain(TABLES).any(|(family, _)| *family == name) || name == "limit";
+        let known = |name: &str| {
+            let mut all = SOURCES.iter().chain(TABLES).chain(COUNTED);
+            all.any(|(family, _)| *family == name) || name == "limit"
+        };
         if let Some(name) = families.iter().find(|name| !known(name)) {
             return Err(format!("no family {name}"));
         }
@@ -78,6 +83,7 @@ impl Cases {
             seed,
             sources: spread(SOURCES),
             tables: spread(TABLES),
+            counted: spread(COUNTED),
             limit: chosen("limit") && !sample,
             sample,
             real,
@@ -119,7 +125,13 @@ impl Cases {
     }
 
     fn families_of(&self, op: u8) -> &[&'static str] {
-        if takes_table(op) { &self.tables } else { &self.sources }
+        match op {
+            b'Q' => &self.counted,
+            // the stored sample of V is older than the count, and keeps its tables
+            b'V' if !self.sample => &self.counted,
+            _ if takes_table(op) => &self.tables,
+            _ => &self.sources,
+        }
     }
 
     /// The family of this case, and the how-manieth of its family it is, so that an enumeration leaves
@@ -157,7 +169,8 @@ impl Cases {
     /// A source at the limit; for an op that takes a table one with many records.
     fn limit_frame(&self, op: u8, turn: u64, rng: &mut Rng) -> Frame {
         if takes_table(op) {
-            let (table, width) = tables::large(rng);
+            let (table, width) =
+                if op == b'Q' && turn % 2 == 1 { looks::large(rng) } else { tables::large(rng) };
             return of_table(op, table, width, self.sample, rng);
         }
         let (source, end) = match turn % 32 {
@@ -188,9 +201,10 @@ impl Cases {
     }
 
     fn table_frame(&self, op: u8, number: u64, rng: &mut Rng) -> Frame {
-        let (family, turn) = self.turn(&self.tables, number, rng);
+        let (family, turn) = self.turn(self.families_of(op), number, rng);
         let (table, width) = match family {
             "small" => self.small.nth(turn, rng),
+            "looks" => looks::table(self.sample, rng),
             "broken" => (tables::broken(rng), width(30, rng)),
             _ => tables::random(self.sample, rng),
         };
@@ -200,7 +214,7 @@ impl Cases {
 
 /// The ops that are given a table and not a source.
 fn takes_table(op: u8) -> bool {
-    matches!(op, b'P' | b'K' | b'V' | b'v')
+    matches!(op, b'P' | b'K' | b'V' | b'v' | b'Q')
 }
 
 fn of_table(op: u8, table: Vec<u8>, width: usize, small: bool, rng: &mut Rng) -> Frame {
@@ -213,7 +227,16 @@ fn of_table(op: u8, table: Vec<u8>, width: usize, small: bool, rng: &mut Rng) ->
         Ok(trees) => layout::page(&trees, width).out.len(),
         Err(_) => table.len(),
     };
+    if op == b'Q' {
+        return of_counted(table, width, need, rng);
+    }
     Frame { op, a: width as u32, b: room(need, rng) as u32, bytes: table }
+}
+
+/// A refused print reports nothing, so that the room is enough more often than not. The byte for the layout is 0, for there is one.
+fn of_counted(table: Vec<u8>, width: usize, need: usize, rng: &mut Rng) -> Frame {
+    let room = if rng.one_in(4) { room(need, rng) } else { need + rng.below(50) };
+    Frame { op: b'Q', a: width as u32, b: room as u32, bytes: [vec![0], table].concat() }
 }
 
 /// Mostly the source's start, else any place in it and a little beyond.

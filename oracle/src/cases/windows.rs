@@ -34,7 +34,7 @@ pub fn frame(op: u8, table: Vec<u8>, width: usize, small: bool, rng: &mut Rng) -
 
 /// The bytes of the print; None where it is refused.
 fn text_len(table: &[u8], width: usize) -> Option<usize> {
-    print(&CrateSide, table, width, usize::MAX).ok().map(|text| text.len())
+    print(&CrateSide, table, width, usize::MAX).ok().map(|printed| printed.text.len())
 }
 
 /// Document 02 decides every answer: one table in all calls, or another one first in calls that move nothing.

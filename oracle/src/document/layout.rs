@@ -1,11 +1,14 @@
 //! Document 01, "How a table is laid out". It says also where the crate would panic.
 
+use crate::document::looking::looks;
 use crate::tree::{Tree, cost};
 
 pub struct Page {
     pub out: Vec<u8>,
     /// An empty list that doesn't fit was printed: here the crate has no answer.
     pub unfitting_empty_list: bool,
+    /// The records that the fits test looked at.
+    pub looked: usize,
     column: usize,
     indent: usize,
     width: usize,
@@ -13,7 +16,8 @@ pub struct Page {
 
 /// All trees, each with its LF, and one more LF between two.
 pub fn page(trees: &[Tree], width: usize) -> Page {
-    let mut page = Page { out: Vec::new(), unfitting_empty_list: false, column: 0, indent: 0, width };
+    let mut page =
+        Page { out: Vec::new(), unfitting_empty_list: false, looked: 0, column: 0, indent: 0, width };
     for (i, tree) in trees.iter().enumerate() {
         if i > 0 {
             page.out.push(b'\n');
@@ -38,7 +42,8 @@ impl Page {
         self.out.extend(std::iter::repeat_n(b' ', 4 * self.indent));
     }
 
-    fn fits(&self, list: &Tree) -> bool {
+    fn fits(&mut self, list: &Tree) -> bool {
+        self.looked += looks(list, self.width, self.column);
         self.column <= self.width && cost(list) <= self.width - self.column
     }
 
@@ -51,18 +56,25 @@ impl Page {
                 self.put(b" @ ");
                 self.tree(inner, one_line);
             }
-            Tree::List(items) if one_line || self.fits(tree) => {
-                self.put(b"(");
-                for (i, item) in items.iter().enumerate() {
-                    if i > 0 {
-                        self.put(b" ");
-                    }
-                    self.tree(item, true);
+            Tree::List(items) => {
+                if one_line || self.fits(tree) {
+                    self.on_one_line(items)
+                } else {
+                    self.broken(items)
                 }
-                self.put(b")");
             }
-            Tree::List(items) => self.broken(items),
         }
+    }
+
+    fn on_one_line(&mut self, items: &[Tree]) {
+        self.put(b"(");
+        for (i, item) in items.iter().enumerate() {
+            if i > 0 {
+                self.put(b" ");
+            }
+            self.tree(item, true);
+        }
+        self.put(b")");
     }
 
     fn broken(&mut self, items: &[Tree]) {

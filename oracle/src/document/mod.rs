@@ -1,7 +1,8 @@
-//! Document 01 written out for what the crate cannot answer; none of it looks at the crate.
+//! The documents written out for what the crate cannot answer; none of it looks at the crate.
 
 pub mod calls;
 pub mod layout;
 pub mod lex;
+pub mod looking;
 pub mod read;
 pub mod table;

@@ -1,12 +1,13 @@
-//! A stand-in for the probe, from document 01 alone and by other routes than the expectations take:
-//! the comparison run on it checks the harness, and document 01's side of it against the crate.
+//! A stand-in for the probe, from the documents alone and by other routes than the expectations take:
+//! the comparison run on it checks the harness, and the documents' side of it against the crate.
 
+mod counting;
 mod descent;
 mod machine;
 
 use std::io::{Read, Write, stdin, stdout};
 
-use crate::answer::{Side, answer};
+use crate::answer::{Printed, Side, answer};
 use crate::document::{layout, lex};
 use crate::drive::Feeder;
 use crate::frame;
@@ -32,8 +33,8 @@ impl Side for StandIn {
         descent::table_trees(table, printing)
     }
 
-    fn lay_out(&self, trees: &[Tree], width: usize) -> Vec<u8> {
-        layout::page(trees, width).out
+    fn lay_out(&self, trees: &[Tree], width: usize) -> Printed {
+        Printed { text: layout::page(trees, width).out, looked: counting::looked(trees, width) }
     }
 }
 

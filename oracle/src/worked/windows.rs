@@ -10,6 +10,11 @@ const PAIR: &[u8] = b"\x0a\0\0\0\x04\0\x02\0\0\0\x07\0\0\0\x01\0a\x07\0\0\0\x01\
 const BOUND: &[u8] = b"\x07\0\0\0\x03\0x\x0a\0\0\0\x04\0\x01\0\0\0\x07\0\0\0\x01\0a";
 const NO_SYMBOL: &[u8] = b"\x06\0\0\0\x01\0";
 
+/// The end, with the records that the fits test looked at: none of atoms, two of `x @ (a)`, three of `(a b)`.
+const NONE: &str = "end\nlooked 0";
+const TWO: &str = "end\nlooked 2";
+const THREE: &str = "end\nlooked 3";
+
 fn calls(lengths: &[u32], first: usize, x: &[u8], y: &[u8]) -> Vec<u8> {
     Calls { lengths: lengths.to_vec(), first, x: x.to_vec(), y: y.to_vec() }.bytes()
 }
@@ -40,35 +45,35 @@ fn whole() -> Vec<Case> {
             5,
             &[2, 3, 0, 2, 5, 0],
             PAIR,
-            &["window 2\n2861", "window 3\n206229", "window 0\n", "window 1\n0a", "end", "end"],
+            &["window 2\n2861", "window 3\n206229", "window 0\n", "window 1\n0a", THREE, THREE],
         ),
-        one(5, &[6, 1], PAIR, &["window 6\n28612062290a", "end"]),
-        one(5, &[5, 0, 1, 0], PAIR, &["window 5\n2861206229", "window 0\n", "window 1\n0a", "end"]),
-        one(5, &[u32::MAX, 2_097_152], PAIR, &["window 6\n28612062290a", "end"]),
-        one(4, &[4, 4, 4, 4], PAIR, &["window 4\n28610a20", "window 4\n20202062", "window 3\n0a290a", "end"]),
+        one(5, &[6, 1], PAIR, &["window 6\n28612062290a", THREE]),
+        one(5, &[5, 0, 1, 0], PAIR, &["window 5\n2861206229", "window 0\n", "window 1\n0a", THREE]),
+        one(5, &[u32::MAX, 2_097_152], PAIR, &["window 6\n28612062290a", THREE]),
+        one(4, &[4, 4, 4, 4], PAIR, &["window 4\n28610a20", "window 4\n20202062", "window 3\n0a290a", THREE]),
         one(
             9,
             &[2, 2, 2, 2, 2],
             BOUND,
-            &["window 2\n7820", "window 2\n4020", "window 2\n2861", "window 2\n290a", "end"],
+            &["window 2\n7820", "window 2\n4020", "window 2\n2861", "window 2\n290a", TWO],
         ),
         one(
             9,
             &[1, 1, 1, 1, 1, 1],
             &[ATOM, ATOM].concat(),
-            &["window 1\n61", "window 1\n0a", "window 1\n0a", "window 1\n61", "window 1\n0a", "end"],
+            &["window 1\n61", "window 1\n0a", "window 1\n0a", "window 1\n61", "window 1\n0a", NONE],
         ),
         one(
             9,
             &[512, 512, 512],
             &long,
-            &[&format!("window 512\n{front}"), &format!("window 89\n{back}0a"), "end"],
+            &[&format!("window 512\n{front}"), &format!("window 89\n{back}0a"), NONE],
         ),
-        one(9, &[0, 5], b"", &["end", "end"]),
+        one(9, &[0, 5], b"", &[NONE, NONE]),
         // the same bytes are the same table
-        two(5, &[3, 3, 3], 1, PAIR, PAIR, &["window 3\n286120", "window 3\n62290a", "end"]),
+        two(5, &[3, 3, 3], 1, PAIR, PAIR, &["window 3\n286120", "window 3\n62290a", THREE]),
         // four numbers of which the calls say nine, and no table
-        case('V', 9, 0, [9, 0, 0, 0].repeat(4), lines(&["end"])),
+        case('V', 9, 0, [9, 0, 0, 0].repeat(4), lines(&[NONE])),
     ]
 }
 
@@ -96,11 +101,11 @@ fn fresh_again() -> Vec<Case> {
             2,
             NO_SYMBOL,
             PAIR,
-            &["refusal 16 at 0", "refusal 16 at 0", "window 6\n28612062290a", "end"],
+            &["refusal 16 at 0", "refusal 16 at 0", "window 6\n28612062290a", THREE],
         ),
-        two(5, &[0, 9, 9], 1, ATOM, PAIR, &["window 0\n", "window 6\n28612062290a", "end"]),
+        two(5, &[0, 9, 9], 1, ATOM, PAIR, &["window 0\n", "window 6\n28612062290a", THREE]),
         two(5, &[0, 9, 9], 1, ATOM, NO_SYMBOL, &["window 0\n", "refusal 16 at 0", "refusal 16 at 0"]),
-        two(5, &[9, 9], 1, NO_SYMBOL, b"", &["refusal 16 at 0", "end"]),
+        two(5, &[9, 9], 1, NO_SYMBOL, b"", &["refusal 16 at 0", NONE]),
     ]
 }
 

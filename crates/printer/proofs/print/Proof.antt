@@ -41,7 +41,7 @@ returns-3 c =
     let m = c .before .before .before .before .before .before .before .before in
     let s = m .before .before .before .args in
     let k = print-right (tableOf true (s .table .now)) _ _ _ (m .measure .ensures) (c .before .before .before .before .before .before .n .given .1) in
-    print-text (s .table .now) _ (s .width) (s .out .now) (k .0) (k .1) (search (needs, not-false, leb-true)) _ (c .before .before .print-trees .ensures .1)
+    print-text (s .table .now) _ (s .width) (s .out .now) (k .0) (k .1) (search (needs, not-false, leb-true)) _ _ (c .before .before .print-trees .ensures)
 
 pub print-spec : {M : Type 1} → statement M
 print-spec = tie.close (tie.spec measure-requires enum-known-r enum-known-n returns print-trees-requires returns-2 same-length returns-3)

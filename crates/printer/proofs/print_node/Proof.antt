@@ -37,7 +37,7 @@ add-end : tie.Need-add-end
 add-end c =
     let s = c .before .before .before .before .before .before .before .before .before .before .before .before in
     let l = right-len (s .args .t .now) _ (s .args .at) Wrap (s .args .width) 0 0 (λ i. (c .before .before .before .before .before .before .before .before .before .before .before .shared-slice-known .given i) .fits) (s .pre .0) (lit≤ tt) (s .pre .2) in
-    omega (arith, first-le (s .args .at) _ (c .before .before .before .before .before .before .before .before .put-unless .ensures .0), c .before .before .before .print-wrapped .ensures .1 .0, s .pre .1)
+    omega (arith, first-le (s .args .at) _ (c .before .before .before .before .before .before .before .before .put-unless .ensures .0), c .before .before .before .print-wrapped .ensures .0 .1 .0, s .pre .1)
 
 least-requires-2 : tie.Need-least-requires-2
 least-requires-2 c κs = search needs
@@ -58,7 +58,7 @@ add-t14 : tie.Need-add-t14
 add-t14 c =
     let s = c .before .before .before .before .before .before .before .before .before .before .before .before .before .before .before .before .before in
     let l = right-len (s .args .t .now) _ (s .args .at) Wrap (s .args .width) 0 0 (λ i. (c .before .before .before .before .before .before .before .before .before .before .before .before .before .before .before .before .shared-slice-known .given i) .fits) (s .pre .0) (lit≤ tt) (s .pre .2) in
-    omega (arith, first-le (s .args .at) _ (c .before .before .before .before .before .before .before .before .before .before .before .before .before .put-unless .ensures .0), c .before .before .before .before .before .before .before .before .print-wrapped .ensures .1 .0, c .before .before .put-byte .ensures .0, s .pre .1)
+    omega (arith, first-le (s .args .at) _ (c .before .before .before .before .before .before .before .before .before .before .before .before .before .put-unless .ensures .0), c .before .before .before .before .before .before .before .before .print-wrapped .ensures .0 .1 .0, c .before .before .put-byte .ensures .0, s .pre .1)
 
 same-length : tie.Need-same-length
 same-length c = search needs
@@ -66,8 +66,11 @@ same-length c = search needs
 returns : tie.Need-returns
 returns c =
     let s = c .before .before .before .before .before .before .before .before .before .before .before .before .before .before .before .before .before .args in
-    node-out (s .at) (s .width) _ _ _ _ _ _ (treeAt (s .t .now) true depthLimit (s .at)) (s .out .now) _ _ _ _ (c .before .before .before .before .before .before .before .before .before .before .before .before .before .put-unless .ensures) (c .before .before .before .before .before .before .before .before .before .before .least .ensures .1) (c .before .before .before .before .before .before .before .before .print-wrapped .ensures) refl
-    (c .before .before .before .before .least2 .ensures .1) (c .before .before .put-byte .ensures)
+    let x = c .before .before .before .before .before .before .before .before .print-wrapped .ensures in (
+      node-out (s .at) (s .width) _ _ _ _ _ _ (treeAt (s .t .now) true depthLimit (s .at)) (s .out .now) _ _ _ _ (c .before .before .before .before .before .before .before .before .before .before .before .before .before .put-unless .ensures) (c .before .before .before .before .before .before .before .before .before .before .least .ensures .1) (x .0) refl
+          (c .before .before .before .before .least2 .ensures .1) (c .before .before .put-byte .ensures),
+      x .1,
+    )
 
 pub print-node-spec : {M : Type 1} → statement M
 print-node-spec =

@@ -6,15 +6,16 @@ use lib.ListN.{length}
 use lib.Dec.{lit≤}
 use Rattle.printer.specs.Layout.{Wrap}
 use Rattle.printer.proofs.LayoutBounds.{right-len}
+use Rattle.printer.proofs.LookedBound.{right-looked}
 use Rattle.printer.proofs.PageWriting.{Pages, pages-begin, pages-tree, pages-step, pages-end, pages-within, pages-limit}
 use Rattle.printer.proofs.print_trees.Statement.{statement}
 use Rattle.printer.proofs.print_trees.Tie as tie
 
 abbrev Inv-loop : tie.InvT-loop
-Inv-loop t width out₀ p₀ w₀ out p w = Pages t width out₀ out w p
+Inv-loop t width out₀ p₀ w₀ looked₀ out p w looked = Pages t width out₀ out w looked p
 
 abbrev μ-loop : tie.MeasureT-loop
-μ-loop t width out₀ p₀ w₀ out p w = length t - p
+μ-loop t width out₀ p₀ w₀ looked₀ out p w looked = length t - p
 
 loop-holds : tie.Need-loop-holds Inv-loop μ-loop
 loop-holds c = pages-begin _ _ _ (c .before .before .pre)
@@ -39,22 +40,33 @@ add-w c =
     let v = c .before .before .before .before .before .before .before .loop .inv in
     let s = c .before .before .before .before .before .before .before .before .before .before in
     let l = right-len (s .args .t .now) _ (c .before .before .before .before .before .before .before .loop .p) Wrap (s .args .width) 0 0 (λ i. (c .before .before .before .before .before .before .before .before .before .shared-slice-known .given i) .fits) (pages-within v) (lit≤ tt) (pages-tree v (c .before .before .before .before .before .before .loop-test .taken)) in
-    let n = pages-step v (c .before .before .before .before .before .before .loop-test .taken) _ _ _ _ (c .before .before .before .print-node .ensures) l (c .before .before .before .before .before .least .ensures .1) (c .before .before .out .given .1) in
+    let m = right-looked (s .args .t .now) _ (c .before .before .before .before .before .before .before .loop .p) (s .args .width) 0 0 (λ i. (c .before .before .before .before .before .before .before .before .before .shared-slice-known .given i) .fits) (pages-within v) (lit≤ tt) (pages-tree v (c .before .before .before .before .before .before .loop-test .taken)) in
+    let n = pages-step v (c .before .before .before .before .before .before .loop-test .taken) _ _ _ _ _ (c .before .before .before .print-node .ensures) l m (c .before .before .before .before .before .least .ensures .1) (c .before .before .out .given .1) in
     omega (arith, n .small, pages-within n, pages-limit v)
+
+add-looked : tie.Need-add-looked Inv-loop μ-loop
+add-looked c =
+    let v = c .before .before .before .before .before .before .before .before .loop .inv in
+    let s = c .before .before .before .before .before .before .before .before .before .before .before in
+    let l = right-len (s .args .t .now) _ (c .before .before .before .before .before .before .before .before .loop .p) Wrap (s .args .width) 0 0 (λ i. (c .before .before .before .before .before .before .before .before .before .before .shared-slice-known .given i) .fits) (pages-within v) (lit≤ tt) (pages-tree v (c .before .before .before .before .before .before .before .loop-test .taken)) in
+    let m = right-looked (s .args .t .now) _ (c .before .before .before .before .before .before .before .before .loop .p) (s .args .width) 0 0 (λ i. (c .before .before .before .before .before .before .before .before .before .before .shared-slice-known .given i) .fits) (pages-within v) (lit≤ tt) (pages-tree v (c .before .before .before .before .before .before .before .loop-test .taken)) in
+    let n = pages-step v (c .before .before .before .before .before .before .before .loop-test .taken) _ _ _ _ _ (c .before .before .before .before .print-node .ensures) l m (c .before .before .before .before .before .before .least .ensures .1) (c .before .before .before .out .given .1) in
+    omega (arith, n .few, pages-within n, pages-limit v)
 
 loop-less : tie.Need-loop-less Inv-loop μ-loop
 loop-less c =
-    let v = c .before .before .before .before .before .before .before .loop .inv in
-    let s = c .before .before .before .before .before .before .before .before .before .before in
-    let l = right-len (s .args .t .now) _ (c .before .before .before .before .before .before .before .loop .p) Wrap (s .args .width) 0 0 (λ i. (c .before .before .before .before .before .before .before .before .before .shared-slice-known .given i) .fits) (pages-within v) (lit≤ tt) (pages-tree v (c .before .before .before .before .before .before .loop-test .taken)) in
-    omega (arith, c .before .before .before .print-node .ensures .0)
+    let v = c .before .before .before .before .before .before .before .before .loop .inv in
+    let s = c .before .before .before .before .before .before .before .before .before .before .before in
+    let l = right-len (s .args .t .now) _ (c .before .before .before .before .before .before .before .before .loop .p) Wrap (s .args .width) 0 0 (λ i. (c .before .before .before .before .before .before .before .before .before .before .shared-slice-known .given i) .fits) (pages-within v) (lit≤ tt) (pages-tree v (c .before .before .before .before .before .before .before .loop-test .taken)) in
+    omega (arith, c .before .before .before .before .print-node .ensures .0 .0)
 
 loop-again : tie.Need-loop-again Inv-loop μ-loop
 loop-again c =
-    let v = c .before .before .before .before .before .before .before .loop .inv in
-    let s = c .before .before .before .before .before .before .before .before .before .before in
-    let l = right-len (s .args .t .now) _ (c .before .before .before .before .before .before .before .loop .p) Wrap (s .args .width) 0 0 (λ i. (c .before .before .before .before .before .before .before .before .before .shared-slice-known .given i) .fits) (pages-within v) (lit≤ tt) (pages-tree v (c .before .before .before .before .before .before .loop-test .taken)) in
-    pages-step v (c .before .before .before .before .before .before .loop-test .taken) _ _ _ _ (c .before .before .before .print-node .ensures) l (c .before .before .before .before .before .least .ensures .1) (c .before .before .out .given .1)
+    let v = c .before .before .before .before .before .before .before .before .loop .inv in
+    let s = c .before .before .before .before .before .before .before .before .before .before .before in
+    let l = right-len (s .args .t .now) _ (c .before .before .before .before .before .before .before .before .loop .p) Wrap (s .args .width) 0 0 (λ i. (c .before .before .before .before .before .before .before .before .before .before .shared-slice-known .given i) .fits) (pages-within v) (lit≤ tt) (pages-tree v (c .before .before .before .before .before .before .before .loop-test .taken)) in
+    let m = right-looked (s .args .t .now) _ (c .before .before .before .before .before .before .before .before .loop .p) (s .args .width) 0 0 (λ i. (c .before .before .before .before .before .before .before .before .before .before .shared-slice-known .given i) .fits) (pages-within v) (lit≤ tt) (pages-tree v (c .before .before .before .before .before .before .before .loop-test .taken)) in
+    pages-step v (c .before .before .before .before .before .before .before .loop-test .taken) _ _ _ _ _ (c .before .before .before .before .print-node .ensures) l m (c .before .before .before .before .before .before .least .ensures .1) (c .before .before .before .out .given .1)
 
 same-length : tie.Need-same-length Inv-loop μ-loop
 same-length c = c .before .loop .inv .kept
@@ -75,6 +87,7 @@ print-trees-spec =
     part-print-node-end
     print-node-requires
     add-w
+    add-looked
     loop-less
     loop-again
     same-length

@@ -14,14 +14,14 @@ store-requires c κs = search needs
 put-length-requires : tie.Need-put-length-requires
 put-length-requires c κs = search needs
 
-enum-told : tie.Need-enum-told
-enum-told c = search needs
+enum-known-a-2 : tie.Need-enum-known-a-2
+enum-known-a-2 c = search needs
 
 store-requires-2 : tie.Need-store-requires-2
 store-requires-2 c κs = search needs
 
-enum-known-a-2 : tie.Need-enum-known-a-2
-enum-known-a-2 c = search needs
+enum-known-a-3 : tie.Need-enum-known-a-3
+enum-known-a-3 c = search needs
 
 put-refusal-requires : tie.Need-put-refusal-requires
 put-refusal-requires c κs = search needs
@@ -32,11 +32,11 @@ returns c = rw (c .before .before .before .before .before .a .given .1) (c .befo
 
 returns-2 : tie.Need-returns-2
 unfolding partWords
-returns-2 c = rw (c .before .before .before .enum-told .given .1) (c .before .store2 .ensures, refl)
+returns-2 c = rw (c .before .before .before .before .a2 .given .1) (c .before .store2 .ensures, refl)
 
 returns-3 : tie.Need-returns-3
 unfolding partWords
-returns-3 c = rw (c .before .before .before .a2 .given .1) (refl, c .put-refusal .ensures)
+returns-3 c = rw (c .before .before .before .a3 .given .1) (refl, c .put-refusal .ensures)
 
 pub put-filled-spec : {M : Type 1} → statement M
 put-filled-spec =
@@ -45,9 +45,9 @@ put-filled-spec =
     enum-known-a
     store-requires
     put-length-requires
-    enum-told
-    store-requires-2
     enum-known-a-2
+    store-requires-2
+    enum-known-a-3
     put-refusal-requires
     returns
     returns-2

@@ -10,8 +10,11 @@ use Rattle.windows.proofs.go_on.Tie as tie
 is-done-requires : tie.Need-is-done-requires
 is-done-requires c κs = search needs
 
+cast-looked : tie.Need-cast-looked
+cast-looked c = search needs
+
 returns : tie.Need-returns
-returns c = let a = c .before .before .before .before .before .args in go-end (now (a .t)) (a .width) (state (a .c) (now (a .stack))) (state (a .from) (now (a .stack))) (now (a .window)) _ (c .before .is-done .ensures) (c .if1 .taken)
+returns c = let a = c .before .before .before .before .before .before .args in go-end (now (a .t)) (a .width) (state (a .c) (now (a .stack))) (state (a .from) (now (a .stack))) (now (a .window)) _ (c .before .before .is-done .ensures) (c .before .if1 .taken)
 
 returns-2 : tie.Need-returns-2
 returns-2 c = let a = c .before .before .before .before .before .before .args in go-none (now (a .t)) (a .width) (state (a .c) (now (a .stack))) (state (a .from) (now (a .stack))) (now (a .window)) _ (c .before .before .is-done .ensures) (c .before .if1 .left) (omega (arith, c .if2 .taken))
@@ -31,4 +34,4 @@ returns-3 c = let a = c .before .before .before .before .before .before .before 
 pub go-on-spec : {M : Type 1} → statement M
 go-on-spec =
     tie.close
-    (tie.spec is-done-requires returns returns-2 run-requires same-length same-length-2 returns-3)
+    (tie.spec is-done-requires cast-looked returns returns-2 run-requires same-length same-length-2 returns-3)

@@ -8,10 +8,10 @@ use Rattle.printer.proofs.cost.fits.Statement.{statement}
 use Rattle.printer.proofs.cost.fits.Tie as tie
 
 abbrev Inv-loop : tie.InvT-loop
-Inv-loop t at width column line reach₀ p₀ due₀ reach p due = Walking t at width column reach p due
+Inv-loop t at width column line reach₀ p₀ due₀ looked₀ reach p due looked = Walking t at width column reach p due looked
 
 abbrev μ-loop : tie.MeasureT-loop
-μ-loop t at width column line reach₀ p₀ due₀ reach p due = length t - p
+μ-loop t at width column line reach₀ p₀ due₀ looked₀ reach p due looked = length t - p
 
 loop-holds : tie.Need-loop-holds Inv-loop μ-loop
 loop-holds c = walk-begin _ _ _ _ (λ i. (c .shared-slice-known .given i) .fits)
@@ -27,7 +27,7 @@ returns c =
     let a = c .before .before in
     let l = a .before .before in
     let g = walk-test _ (l .loop .reach) (l .loop .due) (a .before .loop-test .taken) in
-    walk-bad _ _ _ _ _ _ _ (l .loop .inv) (g .0) (g .1) _ (a .entry-at .ensures) (c .enum-told .given .1)
+    walk-bad _ _ _ _ _ _ _ _ (l .loop .inv) (g .0) (g .1) _ (a .entry-at .ensures) (c .enum-told .given .1)
 
 enum-known-cost : tie.Need-enum-known-cost Inv-loop μ-loop
 enum-known-cost c = search needs
@@ -37,7 +37,7 @@ add-reach c =
     let a = c .before .before .before in
     let l = a .before .before in
     let g = walk-test _ (l .loop .reach) (l .loop .due) (a .before .loop-test .taken) in
-    let v = walk-on _ _ _ _ _ _ _ (l .loop .inv) (g .0) (g .1) _ (a .entry-at .ensures) _ _ _ (c .before .cost .given .1) in
+    let v = walk-on _ _ _ _ _ _ _ _ (l .loop .inv) (g .0) (g .1) _ (a .entry-at .ensures) _ _ _ (c .before .cost .given .1) in
     omega (arith, v .4, g .0)
 
 add-p : tie.Need-add-p Inv-loop μ-loop
@@ -45,7 +45,7 @@ add-p c =
     let a = c .before .before .before in
     let l = a .before .before in
     let g = walk-test _ (l .loop .reach) (l .loop .due) (a .before .loop-test .taken) in
-    let v = walk-on _ _ _ _ _ _ _ (l .loop .inv) (g .0) (g .1) _ (a .entry-at .ensures) _ _ _ (c .before .cost .given .1) in
+    let v = walk-on _ _ _ _ _ _ _ _ (l .loop .inv) (g .0) (g .1) _ (a .entry-at .ensures) _ _ _ (c .before .cost .given .1) in
     omega (arith, v .1, v .2)
 
 sub-due : tie.Need-sub-due Inv-loop μ-loop
@@ -60,15 +60,22 @@ add-due c =
     let a = c .before .before .before in
     let l = a .before .before in
     let g = walk-test _ (l .loop .reach) (l .loop .due) (a .before .loop-test .taken) in
-    let v = walk-on _ _ _ _ _ _ _ (l .loop .inv) (g .0) (g .1) _ (a .entry-at .ensures) _ _ _ (c .before .cost .given .1) in
+    let v = walk-on _ _ _ _ _ _ _ _ (l .loop .inv) (g .0) (g .1) _ (a .entry-at .ensures) _ _ _ (c .before .cost .given .1) in
     omega (arith, v .3, v .4, l .loop .inv .on (g .0) .few)
+
+add-looked : tie.Need-add-looked Inv-loop μ-loop
+add-looked c =
+    let a = c .before .before .before in
+    let l = a .before .before in
+    let g = walk-test _ (l .loop .reach) (l .loop .due) (a .before .loop-test .taken) in
+    omega (arith, l .loop .inv .on (g .0) .few)
 
 loop-less : tie.Need-loop-less Inv-loop μ-loop
 loop-less c =
     let a = c .before .before .before in
     let l = a .before .before in
     let g = walk-test _ (l .loop .reach) (l .loop .due) (a .before .loop-test .taken) in
-    let v = walk-on _ _ _ _ _ _ _ (l .loop .inv) (g .0) (g .1) _ (a .entry-at .ensures) _ _ _ (c .before .cost .given .1) in
+    let v = walk-on _ _ _ _ _ _ _ _ (l .loop .inv) (g .0) (g .1) _ (a .entry-at .ensures) _ _ _ (c .before .cost .given .1) in
     omega (arith, v .0, v .1)
 
 loop-again : tie.Need-loop-again Inv-loop μ-loop
@@ -76,12 +83,12 @@ loop-again c =
     let a = c .before .before .before in
     let l = a .before .before in
     let g = walk-test _ (l .loop .reach) (l .loop .due) (a .before .loop-test .taken) in
-    walk-step _ _ _ _ _ _ _ (l .loop .inv) (g .0) (g .1) _ (a .entry-at .ensures) _ _ _ (c .before .cost .given .1)
+    walk-step _ _ _ _ _ _ _ _ (l .loop .inv) (g .0) (g .1) _ (a .entry-at .ensures) _ _ _ (c .before .cost .given .1)
 
 returns-2 : tie.Need-returns-2 Inv-loop μ-loop
-returns-2 c = let l = c .before in walk-end _ _ _ _ _ (l .loop .p) _ (l .loop .inv) (c .loop-test .left)
+returns-2 c = let l = c .before in walk-end _ _ _ _ _ (l .loop .p) (l .loop .due) _ (l .loop .inv) (c .loop-test .left)
 
 pub fits-spec : {M : Type 1} → statement M
 fits-spec =
     tie.close
-    (tie.spec Inv-loop μ-loop loop-holds entry-at-requires enum-told returns enum-known-cost add-reach add-p sub-due add-due loop-less loop-again returns-2)
+    (tie.spec Inv-loop μ-loop loop-holds entry-at-requires enum-told returns enum-known-cost add-reach add-p sub-due add-due add-looked loop-less loop-again returns-2)

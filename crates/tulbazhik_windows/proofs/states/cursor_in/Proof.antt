@@ -26,24 +26,30 @@ cast-t18 c = search needs
 element-copy-out-t21 : tie.Need-element-copy-out-t21
 element-copy-out-t21 c = search needs
 
-cast-t23 : tie.Need-cast-t23
-cast-t23 c = search needs
+cast-t24 : tie.Need-cast-t24
+cast-t24 c = search needs
 
-element-copy-out-t26 : tie.Need-element-copy-out-t26
-element-copy-out-t26 c = search needs
+element-copy-out-t27 : tie.Need-element-copy-out-t27
+element-copy-out-t27 c = search needs
 
-element-copy-out-t30 : tie.Need-element-copy-out-t30
-element-copy-out-t30 c = search needs
+cast-t29 : tie.Need-cast-t29
+cast-t29 c = search needs
 
-cast-t32 : tie.Need-cast-t32
-cast-t32 c = search needs
+element-copy-out-t32 : tie.Need-element-copy-out-t32
+element-copy-out-t32 c = search needs
 
-element-copy-out-t35 : tie.Need-element-copy-out-t35
-element-copy-out-t35 c = search needs
+element-copy-out-t36 : tie.Need-element-copy-out-t36
+element-copy-out-t36 c = search needs
+
+cast-t38 : tie.Need-cast-t38
+cast-t38 c = search needs
+
+element-copy-out-t41 : tie.Need-element-copy-out-t41
+element-copy-out-t41 c = search needs
 
 returns : tie.Need-returns
 unfolding cursorIn
-returns c = rw (c .before .before .before .before .before .before .before .phase-in .ensures) refl
+returns c = rw (c .before .before .before .before .before .before .before .before .phase-in .ensures) refl
 
 pub cursor-in-spec : {M : Type 1} → statement M
 cursor-in-spec =
@@ -56,9 +62,11 @@ cursor-in-spec =
     element-copy-out-t16
     cast-t18
     element-copy-out-t21
-    cast-t23
-    element-copy-out-t26
-    element-copy-out-t30
-    cast-t32
-    element-copy-out-t35
+    cast-t24
+    element-copy-out-t27
+    cast-t29
+    element-copy-out-t32
+    element-copy-out-t36
+    cast-t38
+    element-copy-out-t41
     returns)

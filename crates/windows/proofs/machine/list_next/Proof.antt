@@ -11,8 +11,8 @@ held-requires c κs = search needs
 set-word-requires : tie.Need-set-word-requires
 set-word-requires c κs = search needs
 
-margin-for-requires : tie.Need-margin-for-requires
-margin-for-requires c κs = search needs
+test-for-requires : tie.Need-test-for-requires
+test-for-requires c κs = search needs
 
 opened-requires : tie.Need-opened-requires
 opened-requires c κs = search needs
@@ -21,7 +21,7 @@ same-length : tie.Need-same-length
 same-length c = search needs
 
 returns : tie.Need-returns
-returns c = let a = c .before .before .before .before .before .before .before .before .before .before .before .args in list-in (a .c) (now (a .t)) (now (a .stack)) _ (a .width) _ (a .n) _ _ (c .before .before .before .before .before .before .before .if1 .taken) (c .before .before .before .before .before .held .ensures) (c .before .before .before .before .set-word .ensures) (c .before .margin-for .ensures) (c .opened .ensures)
+returns c = let a = c .before .before .before .before .before .before .before .before .before .before .before .args in list-in (a .c) (now (a .t)) (now (a .stack)) _ (a .width) _ (a .n) _ _ (c .before .before .before .before .before .before .before .if1 .taken) (c .before .before .before .before .before .held .ensures) (c .before .before .before .before .set-word .ensures) (c .before .test-for .ensures) (c .opened .ensures)
 
 moved-requires : tie.Need-moved-requires
 moved-requires c κs = search needs
@@ -35,7 +35,7 @@ list-next-spec =
     (tie.spec
     held-requires
     set-word-requires
-    margin-for-requires
+    test-for-requires
     opened-requires
     same-length
     returns

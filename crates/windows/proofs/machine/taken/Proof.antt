@@ -11,7 +11,7 @@ one-less-requires : tie.Need-one-less-requires
 one-less-requires c κs = search needs
 
 returns : tie.Need-returns
-returns c = let a = c .before .args in ap (λ (d : ℕ). cursor Node (a .c .at) (a .c .depth) d (a .c .margin) (a .left) (a .indent)) (c .one-less .ensures)
+returns c = let a = c .before .args in ap (λ (d : ℕ). cursor Node (a .c .at) (a .c .depth) d (a .c .margin) (a .left) (a .indent) (a .c .looked)) (c .one-less .ensures)
 
 pub taken-spec : {M : Type 1} → statement M
 taken-spec = tie.close (tie.spec one-less-requires returns)
