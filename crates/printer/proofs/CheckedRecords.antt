@@ -11,7 +11,7 @@ use borrow.Author.Tests.{le-leb}
 use Rattle.refusals.specs.Numbers.{tooDeep, badSymbol, lowest}
 use Rattle.refusals.specs.Result.{Result, ok, refused}
 use Rattle.wide.specs.Bytes.{Bytes, numberIn, integerAt, wideIn}
-use Rattle.table.specs.Trees.{Tree, symbol, integer, binding, list, isSymbol}
+use Rattle.table.specs.Trees.{Tree, Trees, symbol, integer, binding, list, isSymbol}
 use Rattle.table.specs.declared.Record.{Record}
 use Rattle.table.specs.declared.Record.the-variants.{Symbol, Integer, Binding, List as ListOf, Bad}
 use Rattle.records.specs.Records.{headLen, kindAt, payload}
@@ -22,7 +22,7 @@ use Rattle.table.specs.declared.Step.{Step}
 use Rattle.table.specs.declared.Step.the-variants as step
 use Rattle.table.proofs.Reading.{RecordAt, record-in, read-in, symbol-in, StepIn, tree-of}
 use Rattle.records.proofs.Heads.{within-is, part-lt}
-use Rattle.table.proofs.Steps.{step-tree, step-in, found-in}
+use Rattle.table.proofs.Steps.{Gone, step-tree, step-in, found-in}
 use Rattle.printer.specs.PrivateTrees.{Right, Sound, treeOf, treesOf, nextOf, named-len}
 
 -- the count of a list fits 4 bytes, in a table of bytes
@@ -108,6 +108,14 @@ right-is (refused n a) r = absurd r
 -- a found tree ends past its place and within the table
 pub found-end : (t : List ℕ) (d p : ℕ) → p ≤ length t → Right (treeAt t true d p) → (p < nextOf (treeAt t true d p)) × (nextOf (treeAt t true d p) ≤ length t)
 found-end t d p h r = found-in t true d p _ _ h (right-is (treeAt t true d p) r)
+
+-- the items of a list that is right are those done, and some that are left: what holds of every such list holds of them
+pub items-left : {f : ℕ → Result (Found Tree)} {n at i p : ℕ} (g : Gone f n at i p) → Right (itemsAt f n at) → (P : Trees → Type 0) → ((ys : Trees) → P (g .pre ys)) → P (treesOf (itemsAt f n at))
+items-left {f} {n} {at} {i} {p} g r P h = by (itemsAt f (n - i) p) (g .whole)
+  where
+    by : (y : Result (Found Trees)) → itemsAt f n at ≡ andThen y (λ ys q. ok (found (g .pre ys) q)) → P (treesOf (itemsAt f n at))
+    by (ok (found ys q)) e = rw e (h ys)
+    by (refused b a) e = absurd (subst Right e r)
 
 -- ---- a symbol, by its kind and its length alone
 

@@ -8,16 +8,16 @@ use lib.Dec.{eqb}
 use lib.ListN.{length}
 use lib.IntN.{ℤ}
 use borrow.Author.Tests.{ne-eqb}
-use Rattle.refusals.specs.Result.{Result, ok, refused}
+use Rattle.refusals.specs.Result.{Result, ok}
 use Rattle.table.specs.Kinds.{listLen}
 use Rattle.table.specs.Trees.{Tree, Trees, symbol, integer, binding, list, none, more}
-use Rattle.table.specs.Decoding.{Found, found, andThen, itemsAt, treeAt}
+use Rattle.table.specs.Decoding.{Found, found, itemsAt, treeAt}
 use Rattle.table.proofs.Steps.{Gone, gone-begin, gone-item, gone-end}
 use Rattle.printer.specs.Layout.{Wrap, SingleLine, column, named, gap, inner, fits, lay}
 use Rattle.printer.specs.Looking.{looks, looked, lookedOf}
 use Rattle.printer.specs.PrivateTrees.{Right, treeOf, treesOf, nextOf}
 use Rattle.printer.specs.PrivateWriting.{seen}
-use Rattle.printer.proofs.CheckedRecords.{Made, right-is}
+use Rattle.printer.proofs.CheckedRecords.{Made, right-is, items-left}
 
 -- ---- on a single line nothing is tested
 
@@ -103,30 +103,27 @@ module _ (d : ℕ) (y : Result (Found Tree)) (z : Result (Found Trees)) (w i c k
 
 -- ---- the items of a wrapped list: k records were looked at, j of them by its own test, and the items from the i-th on are left
 
-module _ (t : List ℕ) (at d n w ind c : ℕ) where
-  abbrev all : Result (Found Trees)
-  all = itemsAt (treeAt t true (d - 1)) n (at + listLen)
+-- the n items behind the record at `at`
+abbrev all : List ℕ → ℕ → ℕ → ℕ → Result (Found Trees)
+all t at d n = itemsAt (treeAt t true (d - 1)) n (at + listLen)
 
+module _ (t : List ℕ) (at d n w ind c : ℕ) where
   pub record Counting (j k p i : ℕ) : Type 0 where
     gone : Gone (treeAt t true (d - 1)) n (at + listLen) i p
     count : (ys : Trees) → j + lookedOf (gone .pre ys) true Wrap w ind c ≡ k + lookedOf ys (eqb i 0) Wrap w ind c
-    right : Right all
-    few : j + lookedOf (treesOf all) true Wrap w ind c ≤ 4294967296
+    right : Right (all t at d n)
+    few : j + lookedOf (treesOf (all t at d n)) true Wrap w ind c ≤ 4294967296
 
-  pub counting-begin : (j : ℕ) → Right all → j + lookedOf (treesOf all) true Wrap w ind c ≤ 4294967296 → Counting j j (at + listLen) 0
+  pub counting-begin : (j : ℕ) → Right (all t at d n) → j + lookedOf (treesOf (all t at d n)) true Wrap w ind c ≤ 4294967296 → Counting j j (at + listLen) 0
   counting-begin j r l = record { gone = gone-begin (treeAt t true (d - 1)) n (at + listLen); count = λ ys. refl; right = r; few = l }
 
 module _ {t : List ℕ} {at d n w ind c j k p i : ℕ} (h : Counting t at d n w ind c j k p i) where
   -- what is counted is no more than the whole
   pub counting-le : k ≤ 4294967296
-  counting-le = by (itemsAt (treeAt t true (d - 1)) (n - i) p) (h .gone .whole)
-    where
-      by : (y : Result (Found Trees)) → all t at d n w ind c ≡ andThen y (λ ys q. ok (found (h .gone .pre ys) q)) → k ≤ 4294967296
-      by (ok (found ys q)) e =
-          let f : j + lookedOf (treesOf (all t at d n w ind c)) true Wrap w ind c ≡ k + lookedOf ys (eqb i 0) Wrap w ind c =
-          ap (λ (v : Result (Found Trees)). j + lookedOf (treesOf v) true Wrap w ind c) e ∙ h .count ys in
-          omega (arith, f, h .few)
-      by (refused b a) e = absurd (subst Right e (h .right))
+  counting-le =
+      let l : k ≤ j + lookedOf (treesOf (all t at d n)) true Wrap w ind c =
+      items-left (h .gone) (h .right) (λ (xs : Trees). k ≤ j + lookedOf xs true Wrap w ind c) (λ ys. omega (arith, h .count ys)) in
+      omega (arith, l, h .few)
 
   -- one item more, at the indent and the column that it has
   module _ (l : i < n) (u v : ℕ) (eu : u ≡ inner (eqb i 0) Wrap ind) (ev : v ≡ column (gap (eqb i 0) Wrap ind c)) (r : Right (treeAt t true (d - 1) p)) (q x z : ℕ)
@@ -149,9 +146,9 @@ module _ {t : List ℕ} {at d n w ind c j k p i : ℕ} (h : Counting t at d n w 
           few = h .few;
         }
 
-  pub counting-end : n ≤ i → k ≡ j + lookedOf (treesOf (all t at d n w ind c)) true Wrap w ind c
+  pub counting-end : n ≤ i → k ≡ j + lookedOf (treesOf (all t at d n)) true Wrap w ind c
   counting-end l =
       let e = gone-end (treeAt t true (d - 1)) n (at + listLen) i p (h .gone) l in
-      let f : j + lookedOf (treesOf (all t at d n w ind c)) true Wrap w ind c ≡ k + lookedOf none (eqb i 0) Wrap w ind c =
+      let f : j + lookedOf (treesOf (all t at d n)) true Wrap w ind c ≡ k + lookedOf none (eqb i 0) Wrap w ind c =
       ap (λ (v : Result (Found Trees)). j + lookedOf (treesOf v) true Wrap w ind c) e ∙ h .count none in
       omega (arith, f, none-seen (eqb i 0) w ind c)

@@ -11,13 +11,13 @@ use borrow.Rule.Slice.PartMut.{putMid}
 use Rattle.refusals.specs.Result.{Result, ok, refused}
 use Rattle.table.specs.Kinds.{listLen}
 use Rattle.table.specs.Trees.{Tree, Trees, binding, list, none, more}
-use Rattle.table.specs.Decoding.{Found, found, andThen, itemsAt, treeAt}
+use Rattle.table.specs.Decoding.{Found, found, itemsAt, treeAt}
 use Rattle.table.proofs.Steps.{Gone, gone-begin, gone-item, gone-stop, gone-end}
 use Rattle.printer.specs.Layout.{Wrap, column, named, gap, inner, fits}
 use Rattle.printer.specs.PrivateTrees.{Right, treeOf, treesOf, nextOf}
 use Rattle.lists.specs.Rooms.{Puts}
 use Rattle.printer.specs.PrivateWriting.{Written, line, laid}
-use Rattle.printer.proofs.CheckedRecords.{Made, right-is, found-end}
+use Rattle.printer.proofs.CheckedRecords.{Made, right-is, found-end, items-left}
 use Rattle.lists.proofs.Rooms.{puts-both}
 use Rattle.printer.proofs.ListTexts.{Manner, rest, rest-more, rest-none, broken, laid-fits, laid-list}
 use Rattle.printer.proofs.LayoutBounds.{item-column-le}
@@ -88,11 +88,7 @@ module _ (t : List ℕ) (at d n : ℕ) (m : Manner) (c : ℕ) where
 
   -- what is done is no more than the whole
   done-le : (k i p : ℕ) (g : Gone (treeAt t true (d - 1)) n (at + listLen) i p) → Right all → ((ys : Trees) → k ≤ length (40 ∷ rest m (g .pre ys) true)) → k ≤ length whole
-  done-le k i p g r text = by (itemsAt (treeAt t true (d - 1)) (n - i) p) (g .whole)
-    where
-      by : (y : Result (Found Trees)) → all ≡ andThen y (λ ys q. ok (found (g .pre ys) q)) → k ≤ length whole
-      by (ok (found ys q)) e = rw e (text ys)
-      by (refused b a) e = absurd (subst Right e r)
+  done-le k i p g r text = items-left g r (λ (xs : Trees). k ≤ length (40 ∷ rest m xs true)) text
 
 module _ {t : List ℕ} {at d n : ℕ} {m : Manner} {c : ℕ} {b₀ b : List ℕ} {len p i : ℕ} (h : Filling t at d n m c b₀ b len p i) where
   abbrev tree : Tree
