@@ -1,12 +1,13 @@
 -- A class by a question that it alone answers yes, and the first byte of a literal. Assumes nothing.
-use Prim.Native.Nat.{ℕ, _-_, _≤_}
+use Prim.Native.Nat.{ℕ, _-_, _≤_, _<_}
 use mathlib.Core.Path.{_≡_, refl, sym}
-use mathlib.Core.Bool.{true, false, _&&_, _||_}
+use mathlib.Core.Bool.{true, false, not, _&&_, _||_}
 use native.Mathlib.Omega.{arith}
 use lib.Dec.{eqb, leb}
 use borrow.Author.Tests.{leb-true, le-leb}
 use Rattle.lists.proofs.Choice.{pick, and-right, or-right, true-false}
-use Rattle.classes.specs.Classes.{Class, Space, LineEnd, Semicolon, LParen, RParen, AtSign, FormFeed, Minus, Digit, Other, classOf, space, lineEnd, decimal, symbolFirst, digitOf, literalByte}
+use Rattle.lists.proofs.Each.{each}
+use Rattle.classes.specs.Classes.{Class, Space, LineEnd, Semicolon, LParen, RParen, AtSign, FormFeed, Minus, Digit, Other, classOf, space, lineEnd, semicolon, lparen, rparen, atSign, decimal, symbolFirst, high, digitOf, literalByte}
 
 -- what a question that one class alone answers yes tells of a class
 no : {P : Type 0} → false ≡ true → P
@@ -20,6 +21,22 @@ pub line-end-is : (c : Class) → lineEnd c ≡ true → c ≡ LineEnd
 line-end-is c =
     elim c [ Space ↦ no | LineEnd ↦ λ _. refl | Semicolon ↦ no | LParen ↦ no | RParen ↦ no | AtSign ↦ no | FormFeed ↦ no | Minus ↦ no | Digit ↦ no | Other ↦ no ]
 
+pub semicolon-is : (c : Class) → semicolon c ≡ true → c ≡ Semicolon
+semicolon-is c =
+    elim c [ Space ↦ no | LineEnd ↦ no | Semicolon ↦ λ _. refl | LParen ↦ no | RParen ↦ no | AtSign ↦ no | FormFeed ↦ no | Minus ↦ no | Digit ↦ no | Other ↦ no ]
+
+pub lparen-is : (c : Class) → lparen c ≡ true → c ≡ LParen
+lparen-is c =
+    elim c [ Space ↦ no | LineEnd ↦ no | Semicolon ↦ no | LParen ↦ λ _. refl | RParen ↦ no | AtSign ↦ no | FormFeed ↦ no | Minus ↦ no | Digit ↦ no | Other ↦ no ]
+
+pub rparen-is : (c : Class) → rparen c ≡ true → c ≡ RParen
+rparen-is c =
+    elim c [ Space ↦ no | LineEnd ↦ no | Semicolon ↦ no | LParen ↦ no | RParen ↦ λ _. refl | AtSign ↦ no | FormFeed ↦ no | Minus ↦ no | Digit ↦ no | Other ↦ no ]
+
+pub at-sign-is : (c : Class) → atSign c ≡ true → c ≡ AtSign
+at-sign-is c =
+    elim c [ Space ↦ no | LineEnd ↦ no | Semicolon ↦ no | LParen ↦ no | RParen ↦ no | AtSign ↦ λ _. refl | FormFeed ↦ no | Minus ↦ no | Digit ↦ no | Other ↦ no ]
+
 pub decimal-is : (c : Class) → decimal c ≡ true → c ≡ Digit
 decimal-is c =
     elim c [ Space ↦ no | LineEnd ↦ no | Semicolon ↦ no | LParen ↦ no | RParen ↦ no | AtSign ↦ no | FormFeed ↦ no | Minus ↦ no | Digit ↦ λ _. refl | Other ↦ no ]
@@ -27,6 +44,14 @@ decimal-is c =
 pub first-other : (c : Class) → symbolFirst c ≡ true → c ≡ Other
 first-other c =
     elim c [ Space ↦ no | LineEnd ↦ no | Semicolon ↦ no | LParen ↦ no | RParen ↦ no | AtSign ↦ no | FormFeed ↦ no | Minus ↦ no | Digit ↦ no | Other ↦ λ _. refl ]
+
+-- a byte above `@` begins a symbol, by one computed test over every byte
+high-first : (b : ℕ) → b < 256 → (not (high b) || symbolFirst (classOf b)) ≡ true
+unfolding classOf
+high-first b h = each (λ b. not (high b) || symbolFirst (classOf b)) refl b h
+
+pub high-other : (b : ℕ) → b < 256 → high b ≡ true → classOf b ≡ Other
+high-other b h e = let f : symbolFirst (classOf b) ≡ true = rw e at (high-first b h) in first-other (classOf b) f
 
 decimal-literal : (b : ℕ) → (leb 48 b && leb b 57) ≡ true → literalByte b ≡ true
 unfolding literalByte digitOf

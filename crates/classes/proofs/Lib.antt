@@ -1,2 +1,8 @@
-pub mod Signs
+pub mod Table
+pub mod Rules
 pub mod Firsts
+pub mod Goes
+pub mod Pieces
+pub mod Words
+pub mod Marks
+pub mod Zeros

@@ -1,7 +1,7 @@
 -- What a byte is (document 01, 'How source becomes tokens').
 use Prim.Native.Nat.{ℕ, _-_}
 use mathlib.Core.Bool.{Bool, true, false, cond, _&&_, _||_}
-use lib.Dec.{eqb, leb}
+use lib.Dec.{eqb, leb, ltb}
 pub use Rattle.classes.specs.declared.Class.{Class}
 pub use Rattle.classes.specs.declared.Class.the-variants.{Space, LineEnd, Semicolon, LParen, RParen, AtSign, FormFeed, Minus, Digit, Other}
 
@@ -43,7 +43,7 @@ blank c = asked c true true false false false false false false false false
 abbrev pub lineEnd : Class → Bool
 lineEnd c = asked c false true false false false false false false false false
 
--- `;`, `(` and `)`, which open and close comments
+-- `;`, `(` and `)`, which open and close comments, and `@`
 abbrev pub semicolon : Class → Bool
 semicolon c = asked c false false true false false false false false false false
 
@@ -52,6 +52,9 @@ lparen c = asked c false false false true false false false false false false
 
 abbrev pub rparen : Class → Bool
 rparen c = asked c false false false false true false false false false false
+
+abbrev pub atSign : Class → Bool
+atSign c = asked c false false false false false true false false false false
 
 -- `0-9`
 abbrev pub decimal : Class → Bool
@@ -64,6 +67,10 @@ symbolFirst c = asked c false false false false false false false false false tr
 -- and runs on until `(`, `)`, `;`, `@`, a blank or form feed
 abbrev pub symbolOther : Class → Bool
 symbolOther c = asked c false false false false false false false true true true
+
+-- the bytes above `@`, each of which begins a symbol and goes on in one
+abbrev pub high : ℕ → Bool
+high b = ltb 64 b
 
 -- a digit's value: `0-9`, `a-f`, `A-F`; 16 of any other byte
 unfoldable pub digitOf : ℕ → ℕ

@@ -1,1 +1,4 @@
 pub mod Classes
+pub mod Numbers
+pub mod Runs
+pub mod PrivateWords

@@ -1,7 +1,10 @@
-// What a byte is: one class for each byte, and the tests that loops over runs of bytes ask. A test that a loop asks of every byte answers
-// first for the bytes that sources have most of.
+// What a byte is: a table of the class of every byte, and the tests that loops over runs of bytes ask. One computed test over all 256 bytes proves them all.
+mod numbers;
+pub mod runs;
+
 ghost use mathlib.Core.Path.{_≡_};
-ghost use Rattle.classes.specs.Classes.{classOf, space, blank, lineEnd, decimal, symbolFirst, symbolOther, digitOf, literalByte};
+ghost use Rattle.classes.specs.Classes.{classOf, space, blank, lineEnd, semicolon, lparen, rparen, atSign, decimal, symbolFirst, symbolOther, high, digitOf, literalByte};
+ghost use Rattle.classes.specs.Numbers.{named};
 
 pub enum Class {
     Space,
@@ -16,25 +19,50 @@ pub enum Class {
     Other,
 }
 
+// The class that a number of the table names.
+fn named(n: u8) -> Class
+    ensures { λ r. ⌜ r ≡ named n ⌝ }
+{
+    match n {
+        0 => Class::Space,
+        1 => Class::LineEnd,
+        2 => Class::Semicolon,
+        3 => Class::LParen,
+        4 => Class::RParen,
+        5 => Class::AtSign,
+        6 => Class::FormFeed,
+        7 => Class::Minus,
+        8 => Class::Digit,
+        _ => Class::Other,
+    }
+}
+
 pub fn class_of(b: u8) -> Class
+    ensures { λ r. ⌜ r ≡ classOf b ⌝ }
+{
+    named(numbers::number_of(b))
+}
+
+// The same by comparisons, for a loop.
+pub fn class_in_loop(b: u8) -> Class
     ensures { λ r. ⌜ r ≡ classOf b ⌝ }
 {
     if is_space(b) {
         return Class::Space;
     }
-    if ends_line(b) {
+    if is_line_end(b) {
         return Class::LineEnd;
     }
-    if b == 59 {
+    if is_semicolon(b) {
         return Class::Semicolon;
     }
-    if b == 40 {
+    if is_lparen(b) {
         return Class::LParen;
     }
-    if b == 41 {
+    if is_rparen(b) {
         return Class::RParen;
     }
-    if b == 64 {
+    if is_at_sign(b) {
         return Class::AtSign;
     }
     if b == 12 {
@@ -55,12 +83,6 @@ fn is_space(b: u8) -> bool
     (b == 9) | (b == 32)
 }
 
-fn ends_line(b: u8) -> bool
-    ensures { λ r. ⌜ r ≡ lineEnd (classOf b) ⌝ }
-{
-    (b == 10) | (b == 13)
-}
-
 fn is_decimal(b: u8) -> bool
     ensures { λ r. ⌜ r ≡ decimal (classOf b) ⌝ }
 {
@@ -76,10 +98,38 @@ pub fn is_blank(b: u8) -> bool
 pub fn is_line_end(b: u8) -> bool
     ensures { λ r. ⌜ r ≡ lineEnd (classOf b) ⌝ }
 {
-    if 13 < b {
-        return false;
-    }
-    ends_line(b)
+    (b == 10) | (b == 13)
+}
+
+pub fn is_semicolon(b: u8) -> bool
+    ensures { λ r. ⌜ r ≡ semicolon (classOf b) ⌝ }
+{
+    b == 59
+}
+
+pub fn is_lparen(b: u8) -> bool
+    ensures { λ r. ⌜ r ≡ lparen (classOf b) ⌝ }
+{
+    b == 40
+}
+
+pub fn is_rparen(b: u8) -> bool
+    ensures { λ r. ⌜ r ≡ rparen (classOf b) ⌝ }
+{
+    b == 41
+}
+
+pub fn is_at_sign(b: u8) -> bool
+    ensures { λ r. ⌜ r ≡ atSign (classOf b) ⌝ }
+{
+    b == 64
+}
+
+// A byte above `@`: each begins a symbol and goes on in one.
+pub fn is_high(b: u8) -> bool
+    ensures { λ r. ⌜ r ≡ high b ⌝ }
+{
+    64 < b
 }
 
 pub fn is_sym_first_char(b: u8) -> bool
@@ -94,24 +144,15 @@ pub fn is_sym_first_char(b: u8) -> bool
 pub fn is_sym_other_char(b: u8) -> bool
     ensures { λ r. ⌜ r ≡ symbolOther (classOf b) ⌝ }
 {
-    if 64 < b {
-        return true;
-    }
-    if b == 32 {
-        return false;
-    }
-    if b == 41 {
-        return false;
-    }
-    !((b == 40)
+    !((b == 9)
+        | (b == 10)
+        | (b == 12)
+        | (b == 13)
+        | (b == 32)
+        | (b == 40)
         | (b == 41)
         | (b == 59)
-        | (b == 64)
-        | (b == 32)
-        | (b == 9)
-        | (b == 10)
-        | (b == 13)
-        | (b == 12))
+        | (b == 64))
 }
 
 // The digit's value, or 16.

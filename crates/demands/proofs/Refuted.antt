@@ -11,8 +11,9 @@ use mir.Syntax.{w64}
 use mir.Val.{ofZ}
 use Rattle.lists.specs.Over.{fitted}
 use Rattle.refusals.specs.Result.{ok, refused}
-use Rattle.classes.specs.declared.Class.the-variants.{Space}
-use Rattle.classes.specs.Classes.{classOf, blank, lineEnd, symbolFirst, symbolOther, digitOf, literalByte}
+use Rattle.classes.specs.declared.Class.the-variants.{Space, Other}
+use Rattle.classes.specs.Classes.{classOf, blank, lineEnd, semicolon, lparen, rparen, atSign, symbolFirst, symbolOther, high, digitOf, literalByte}
+use Rattle.classes.specs.Runs.{leading, symbolRun, lineRun}
 use Rattle.wide.specs.declared.Wide.{Wide}
 use Rattle.wide.specs.declared.Grown.{Grown}
 use Rattle.wide.specs.declared.Grown.the-variants.{Fits, Over}
@@ -24,6 +25,7 @@ use Rattle.lexer.specs.declared.literal.Reading.the-variants.{Empty, Bad, Numbe
 use Rattle.lexer.specs.Tokens.{Answer, end, is, token, int, symbol}
 use Rattle.lexer.specs.Literals.{taken, grow, reading, literalEnd, radixOf, concluded, unsignedIn}
 use Rattle.lexer.specs.Lexing.{skip, symbolEnd, lexIn, nextToken}
+use Rattle.lexer.specs.Gaps.{skipIn, gapEnd}
 
 abbrev pub Not : Type 0 → Type 0
 Not P = P → ⊥
@@ -95,6 +97,15 @@ class-vertical-tab : Not (Space ≡ classOf 11)
 unfolding classOf
 class-vertical-tab e = let z : _≡_ {A = ℕ} 0 1 = cc in omega arith
 
+-- classes::class_in_loop: byte 128 as a blank; `-` as a symbol's first byte
+loop-high : Not (Space ≡ classOf 128)
+unfolding classOf
+loop-high e = let z : _≡_ {A = ℕ} 0 1 = cc in omega arith
+
+loop-minus : Not (Other ≡ classOf 45)
+unfolding classOf
+loop-minus e = let z : _≡_ {A = ℕ} 0 1 = cc in omega arith
+
 -- classes::is_blank: form feed is one; CR is none
 blank-form-feed : Not (true ≡ blank (classOf 12))
 unfolding classOf
@@ -112,6 +123,49 @@ line-return e = let z : _≡_ {A = ℕ} 0 1 = cc in omega arith
 line-space : Not (true ≡ lineEnd (classOf 32))
 unfolding classOf
 line-space e = let z : _≡_ {A = ℕ} 0 1 = cc in omega arith
+
+-- classes::is_semicolon: `:` is one; `;` is none
+semicolon-colon : Not (true ≡ semicolon (classOf 58))
+unfolding classOf
+semicolon-colon e = let z : _≡_ {A = ℕ} 0 1 = cc in omega arith
+
+semicolon-none : Not (false ≡ semicolon (classOf 59))
+unfolding classOf
+semicolon-none e = let z : _≡_ {A = ℕ} 0 1 = cc in omega arith
+
+-- classes::is_lparen: `)` is one; `(` is none
+lparen-close : Not (true ≡ lparen (classOf 41))
+unfolding classOf
+lparen-close e = let z : _≡_ {A = ℕ} 0 1 = cc in omega arith
+
+lparen-none : Not (false ≡ lparen (classOf 40))
+unfolding classOf
+lparen-none e = let z : _≡_ {A = ℕ} 0 1 = cc in omega arith
+
+-- classes::is_rparen: `(` is one; `)` is none
+rparen-open : Not (true ≡ rparen (classOf 40))
+unfolding classOf
+rparen-open e = let z : _≡_ {A = ℕ} 0 1 = cc in omega arith
+
+rparen-none : Not (false ≡ rparen (classOf 41))
+unfolding classOf
+rparen-none e = let z : _≡_ {A = ℕ} 0 1 = cc in omega arith
+
+-- classes::is_at_sign: `A` is one; `@` is none
+sign-letter : Not (true ≡ atSign (classOf 65))
+unfolding classOf
+sign-letter e = let z : _≡_ {A = ℕ} 0 1 = cc in omega arith
+
+sign-none : Not (false ≡ atSign (classOf 64))
+unfolding classOf
+sign-none e = let z : _≡_ {A = ℕ} 0 1 = cc in omega arith
+
+-- classes::is_high: `@` is; byte 128 is not
+high-sign : Not (true ≡ high 64)
+high-sign e = let z : _≡_ {A = ℕ} 0 1 = cc in omega arith
+
+high-none : Not (false ≡ high 128)
+high-none e = let z : _≡_ {A = ℕ} 0 1 = cc in omega arith
 
 -- classes::is_sym_first_char: `-` begins a symbol; byte 200 begins none
 first-minus : Not (true ≡ symbolFirst (classOf 45))
@@ -148,6 +202,24 @@ literal-underscore e = let z : _≡_ {A = ℕ} 0 1 = cc in omega arith
 literal-letter : Not (true ≡ literalByte 103)
 unfolding literalByte digitOf
 literal-letter e = let z : _≡_ {A = ℕ} 0 1 = cc in omega arith
+
+-- classes::runs::symbol_end: a symbol stops before a digit; it runs on over `@`, here in the last of eight bytes
+run-digit : Not (1 ≡ symbolRun (97 ∷ 49 ∷ 32 ∷ []) 0)
+unfolding leading classOf
+run-digit e = omega arith
+
+run-sign : Not (8 ≡ symbolRun (97 ∷ 97 ∷ 97 ∷ 97 ∷ 97 ∷ 97 ∷ 97 ∷ 64 ∷ []) 0)
+unfolding leading classOf
+run-sign e = omega arith
+
+-- classes::runs::line_end: a line ends at form feed; CR does not end it
+run-form-feed : Not (1 ≡ lineRun (97 ∷ 12 ∷ 10 ∷ []) 0)
+unfolding leading classOf
+run-form-feed e = omega arith
+
+run-return : Not (2 ≡ lineRun (97 ∷ 13 ∷ 10 ∷ []) 0)
+unfolding leading classOf
+run-return e = omega arith
 
 -- wide::grow: a carry lost between the limbs; 2^128 let through
 grow-carry : Not (Fits (record { hi = 0; lo = 0 }) ≡ grown (2 ^ 63 * 2 + 0))
@@ -302,6 +374,15 @@ concluded-place e = let z : _≡_ {A = ℕ} 4 2 = cc in omega arith
 concluded-start : Not (refused 6 0 ≡ concluded false 0 4 (Bad (record { number = 6; place = 2 })))
 unfolding concluded
 concluded-start e = let z : _≡_ {A = ℕ} 0 2 = cc in omega arith
+
+-- lexer::gap_end: a comment is no gap; of a block comment that is never closed, the end
+gap-comment : Not (1 ≡ gapEnd (32 ∷ 59 ∷ 97 ∷ 10 ∷ 97 ∷ []) 0)
+unfolding skipIn skip classOf
+gap-comment e = omega arith
+
+gap-open : Not (3 ≡ gapEnd (32 ∷ 40 ∷ 59 ∷ []) 0)
+unfolding skipIn skip classOf
+gap-open e = omega arith
 
 -- lexer::next_token: a comment that ends at the first `;)`; `12ab` as 12; vertical tab as a blank
 next-first-closer : Not (ok (is (token symbol 6 1)) ≡ nextToken (40 ∷ 59 ∷ 40 ∷ 59 ∷ 59 ∷ 41 ∷ 120 ∷ 59 ∷ 41 ∷ []) 0)

@@ -22,12 +22,20 @@ use Rattle.lists.proofs.less.Reads as lists-less
 use Rattle.lists.proofs.least.Reads as lists-least
 use Rattle.lists.proofs.put.Reads as lists-put
 use Rattle.classes.proofs.class_of.Reads as classes-class-of
+use Rattle.classes.proofs.class_in_loop.Reads as classes-class-in-loop
 use Rattle.classes.proofs.is_blank.Reads as classes-is-blank
 use Rattle.classes.proofs.is_line_end.Reads as classes-is-line-end
+use Rattle.classes.proofs.is_semicolon.Reads as classes-is-semicolon
+use Rattle.classes.proofs.is_lparen.Reads as classes-is-lparen
+use Rattle.classes.proofs.is_rparen.Reads as classes-is-rparen
+use Rattle.classes.proofs.is_at_sign.Reads as classes-is-at-sign
+use Rattle.classes.proofs.is_high.Reads as classes-is-high
 use Rattle.classes.proofs.is_sym_first_char.Reads as classes-is-sym-first-char
 use Rattle.classes.proofs.is_sym_other_char.Reads as classes-is-sym-other-char
 use Rattle.classes.proofs.digit_of.Reads as classes-digit-of
 use Rattle.classes.proofs.is_literal_byte.Reads as classes-is-literal-byte
+use Rattle.classes.proofs.runs.symbol_end.Reads as classes-runs-symbol-end
+use Rattle.classes.proofs.runs.line_end.Reads as classes-runs-line-end
 use Rattle.wide.proofs.as_unsigned.Reads as wide-as-unsigned
 use Rattle.wide.proofs.negative.Reads as wide-negative
 use Rattle.wide.proofs.with_sign.Reads as wide-with-sign
@@ -44,6 +52,7 @@ use Rattle.lexer.proofs.literal.grow.Reads as lexer-literal-grow
 use Rattle.lexer.proofs.literal.digits_from.Reads as lexer-literal-digits-from
 use Rattle.lexer.proofs.literal.radix_of.Reads as lexer-literal-radix-of
 use Rattle.lexer.proofs.literal.concluded.Reads as lexer-literal-concluded
+use Rattle.lexer.proofs.gap_end.Reads as lexer-gap-end
 use Rattle.lexer.proofs.next_token.Reads as lexer-next-token
 use Rattle.feeder.proofs.fresh.Reads as feeder-fresh
 use Rattle.feeder.proofs.feed.Reads as feeder-feed
@@ -137,12 +146,20 @@ pub record OneAnswer : Type 0 where
   pub lists·least : One lists-least.Post
   pub lists·put : Both lists-put.Post (λ κs s. now (s .1 .0))
   pub classes·class-of : One classes-class-of.Post
+  pub classes·class-in-loop : One classes-class-in-loop.Post
   pub classes·is-blank : One classes-is-blank.Post
   pub classes·is-line-end : One classes-is-line-end.Post
+  pub classes·is-semicolon : One classes-is-semicolon.Post
+  pub classes·is-lparen : One classes-is-lparen.Post
+  pub classes·is-rparen : One classes-is-rparen.Post
+  pub classes·is-at-sign : One classes-is-at-sign.Post
+  pub classes·is-high : One classes-is-high.Post
   pub classes·is-sym-first-char : One classes-is-sym-first-char.Post
   pub classes·is-sym-other-char : One classes-is-sym-other-char.Post
   pub classes·digit-of : One classes-digit-of.Post
   pub classes·is-literal-byte : One classes-is-literal-byte.Post
+  pub classes·runs·symbol-end : One classes-runs-symbol-end.Post
+  pub classes·runs·line-end : One classes-runs-line-end.Post
   pub wide·as-unsigned : One wide-as-unsigned.Post
   pub wide·negative : One wide-negative.Post
   pub wide·with-sign : OneHeld SignedFits wide-with-sign.Post
@@ -159,6 +176,7 @@ pub record OneAnswer : Type 0 where
   pub lexer·literal·digits-from : One lexer-literal-digits-from.Post
   pub lexer·literal·radix-of : One lexer-literal-radix-of.Post
   pub lexer·literal·concluded : OneHeld LexedFits lexer-literal-concluded.Post
+  pub lexer·gap-end : One lexer-gap-end.Post
   pub lexer·next-token : OneHeld LexedFits lexer-next-token.Post
   pub feeder·fresh : One feeder-fresh.Post
   pub feeder·feed : OneHeld FedFits feeder-feed.Post

@@ -10,7 +10,8 @@ use mir.Val.{ofZ}
 use lib.Signed.{ltZ}
 use Rattle.refusals.specs.Numbers.{depthLimit}
 use Rattle.lists.specs.Over.{fitted}
-use Rattle.classes.specs.Classes.{classOf, blank, lineEnd, symbolFirst, symbolOther, digitOf, literalByte}
+use Rattle.classes.specs.Classes.{classOf, blank, lineEnd, semicolon, lparen, rparen, atSign, symbolFirst, symbolOther, high, digitOf, literalByte}
+use Rattle.classes.specs.Runs.{symbolRun, lineRun}
 use Rattle.wide.specs.Value.{val, value, grown, integerOf, signedOf}
 use Rattle.wide.specs.Text.{integerText}
 use Rattle.wide.specs.Bytes.{le, numberIn, wideBytes, wideIn}
@@ -18,6 +19,7 @@ use Rattle.lexer.specs.Tokens.{answerOf, tokenOf}
 use Rattle.lexer.specs.declared.literal.Reading.the-variants.{Empty as NoDigit}
 use Rattle.lexer.specs.Literals.{grow, reading, literalEnd, radixOf, concluded}
 use Rattle.lexer.specs.Lexing.{nextToken}
+use Rattle.lexer.specs.Gaps.{gapEnd}
 use Rattle.feeder.specs.Feeding.{freshState, feedOf, closeOf, fedOf, replyOf}
 use Rattle.records.specs.Records.{headOf, headAt, record-of}
 use Rattle.table.specs.Trees.{isSymbol}
@@ -40,12 +42,20 @@ use Rattle.lists.proofs.less.Reads as lists-less
 use Rattle.lists.proofs.least.Reads as lists-least
 use Rattle.lists.proofs.put.Reads as lists-put
 use Rattle.classes.proofs.class_of.Reads as classes-class-of
+use Rattle.classes.proofs.class_in_loop.Reads as classes-class-in-loop
 use Rattle.classes.proofs.is_blank.Reads as classes-is-blank
 use Rattle.classes.proofs.is_line_end.Reads as classes-is-line-end
+use Rattle.classes.proofs.is_semicolon.Reads as classes-is-semicolon
+use Rattle.classes.proofs.is_lparen.Reads as classes-is-lparen
+use Rattle.classes.proofs.is_rparen.Reads as classes-is-rparen
+use Rattle.classes.proofs.is_at_sign.Reads as classes-is-at-sign
+use Rattle.classes.proofs.is_high.Reads as classes-is-high
 use Rattle.classes.proofs.is_sym_first_char.Reads as classes-is-sym-first-char
 use Rattle.classes.proofs.is_sym_other_char.Reads as classes-is-sym-other-char
 use Rattle.classes.proofs.digit_of.Reads as classes-digit-of
 use Rattle.classes.proofs.is_literal_byte.Reads as classes-is-literal-byte
+use Rattle.classes.proofs.runs.symbol_end.Reads as classes-runs-symbol-end
+use Rattle.classes.proofs.runs.line_end.Reads as classes-runs-line-end
 use Rattle.wide.proofs.as_unsigned.Reads as wide-as-unsigned
 use Rattle.wide.proofs.negative.Reads as wide-negative
 use Rattle.wide.proofs.with_sign.Reads as wide-with-sign
@@ -62,6 +72,7 @@ use Rattle.lexer.proofs.literal.grow.Reads as lexer-literal-grow
 use Rattle.lexer.proofs.literal.digits_from.Reads as lexer-literal-digits-from
 use Rattle.lexer.proofs.literal.radix_of.Reads as lexer-literal-radix-of
 use Rattle.lexer.proofs.literal.concluded.Reads as lexer-literal-concluded
+use Rattle.lexer.proofs.gap_end.Reads as lexer-gap-end
 use Rattle.lexer.proofs.next_token.Reads as lexer-next-token
 use Rattle.feeder.proofs.fresh.Reads as feeder-fresh
 use Rattle.feeder.proofs.feed.Reads as feeder-feed
@@ -109,12 +120,20 @@ pub record Promises : Type 1 where
   pub lists·least : (κs : _) (a : _) (x : _) (s : _) → lists-least.Post κs a x s ≡ ((x ≤ (a .1 .0)) × ((a .0) ≤ (a .1 .0) → x ≡ (a .0)) × ((a .1 .0) ≤ (a .0) → x ≡ (a .1 .0)))
   pub lists·put : (κs : _) (a : _) (x : _) (s : _) → lists-put.Post κs a x s ≡ ((x ≡ length (now (a .0))) × (now (s .1 .0) ≡ fitted (now (a .0)) (now (a .1 .0))))
   pub classes·class-of : (κs : _) (a : _) (x : _) (s : _) → classes-class-of.Post κs a x s ≡ (x ≡ classOf (a .0))
+  pub classes·class-in-loop : (κs : _) (a : _) (x : _) (s : _) → classes-class-in-loop.Post κs a x s ≡ (x ≡ classOf (a .0))
   pub classes·is-blank : (κs : _) (a : _) (x : _) (s : _) → classes-is-blank.Post κs a x s ≡ (x ≡ blank (classOf (a .0)))
   pub classes·is-line-end : (κs : _) (a : _) (x : _) (s : _) → classes-is-line-end.Post κs a x s ≡ (x ≡ lineEnd (classOf (a .0)))
+  pub classes·is-semicolon : (κs : _) (a : _) (x : _) (s : _) → classes-is-semicolon.Post κs a x s ≡ (x ≡ semicolon (classOf (a .0)))
+  pub classes·is-lparen : (κs : _) (a : _) (x : _) (s : _) → classes-is-lparen.Post κs a x s ≡ (x ≡ lparen (classOf (a .0)))
+  pub classes·is-rparen : (κs : _) (a : _) (x : _) (s : _) → classes-is-rparen.Post κs a x s ≡ (x ≡ rparen (classOf (a .0)))
+  pub classes·is-at-sign : (κs : _) (a : _) (x : _) (s : _) → classes-is-at-sign.Post κs a x s ≡ (x ≡ atSign (classOf (a .0)))
+  pub classes·is-high : (κs : _) (a : _) (x : _) (s : _) → classes-is-high.Post κs a x s ≡ (x ≡ high (a .0))
   pub classes·is-sym-first-char : (κs : _) (a : _) (x : _) (s : _) → classes-is-sym-first-char.Post κs a x s ≡ (x ≡ symbolFirst (classOf (a .0)))
   pub classes·is-sym-other-char : (κs : _) (a : _) (x : _) (s : _) → classes-is-sym-other-char.Post κs a x s ≡ (x ≡ symbolOther (classOf (a .0)))
   pub classes·digit-of : (κs : _) (a : _) (x : _) (s : _) → classes-digit-of.Post κs a x s ≡ (x ≡ digitOf (a .0))
   pub classes·is-literal-byte : (κs : _) (a : _) (x : _) (s : _) → classes-is-literal-byte.Post κs a x s ≡ (x ≡ literalByte (a .0))
+  pub classes·runs·symbol-end : (κs : _) (a : _) (x : _) (s : _) → classes-runs-symbol-end.Post κs a x s ≡ (x ≡ symbolRun (now (a .0)) (a .1 .0))
+  pub classes·runs·line-end : (κs : _) (a : _) (x : _) (s : _) → classes-runs-line-end.Post κs a x s ≡ (x ≡ lineRun (now (a .0)) (a .1 .0))
   pub wide·as-unsigned : (κs : _) (a : _) (x : _) (s : _) → wide-as-unsigned.Post κs a x s ≡ (x ≡ ofZ w64 (a .0))
   pub wide·negative : (κs : _) (a : _) (x : _) (s : _) → wide-negative.Post κs a x s ≡ (x ≡ ltZ (value (a .0)) (pos 0))
   pub wide·with-sign : (κs : _) (a : _) (x : _) (s : _) → wide-with-sign.Post κs a x s ≡ (signedOf x ≡ integerOf (a .1 .0) (val (a .0)))
@@ -131,6 +150,7 @@ pub record Promises : Type 1 where
   pub lexer·literal·digits-from : (κs : _) (a : _) (x : _) (s : _) → lexer-literal-digits-from.Post κs a x s ≡ ((x .reading ≡ reading (a .1 .1 .0) NoDigit (drop (a .1 .0) (now (a .0))) (a .1 .0)) × (x .end ≡ literalEnd (drop (a .1 .0) (now (a .0))) (a .1 .0)))
   pub lexer·literal·radix-of : (κs : _) (a : _) (x : _) (s : _) → lexer-literal-radix-of.Post κs a x s ≡ (x ≡ radixOf (a .0) (a .1 .0))
   pub lexer·literal·concluded : (κs : _) (a : _) (x : _) (s : _) → lexer-literal-concluded.Post κs a x s ≡ (answerOf x ≡ concluded (a .0) (a .1 .0) (a .1 .1 .0) (a .1 .1 .1 .0))
+  pub lexer·gap-end : (κs : _) (a : _) (x : _) (s : _) → lexer-gap-end.Post κs a x s ≡ (x ≡ gapEnd (now (a .0)) (a .1 .0))
   pub lexer·next-token : (κs : _) (a : _) (x : _) (s : _) → lexer-next-token.Post κs a x s ≡ (answerOf x ≡ nextToken (now (a .0)) (a .1 .0))
   pub feeder·fresh : (κs : _) (a : _) (x : _) (s : _) → feeder-fresh.Post κs a x s ≡ (x ≡ freshState)
   pub feeder·feed : (κs : _) (a : _) (x : _) (s : _) → feeder-feed.Post κs a x s ≡ (fedOf x ≡ feedOf (a .0) (now (a .1 .0)))

@@ -3,12 +3,12 @@ use Prim.Native.Nat.{ℕ, _+_, _-_, _≤_, _<_}
 use mathlib.Core.Path.{_≡_}
 use mathlib.Core.Bool.{Bool, true, false, cond}
 use mathlib.Core.List.{List}
-use lib.Dec.{eqb, leb}
+use lib.Dec.{leb}
 use lib.ListN.{length, getD, drop}
 use Rattle.refusals.specs.Numbers.{sourceLimit}
 use Rattle.refusals.specs.Result.{ok, refusedBy}
 use Rattle.classes.specs.declared.Class.{Class}
-use Rattle.classes.specs.Classes.{semicolon, rparen}
+use Rattle.classes.specs.Classes.{classOf, semicolon, lparen, rparen, atSign}
 use Rattle.lexer.specs.declared.Token.{Token}
 use Rattle.lexer.specs.declared.Token.the-variants as token
 use Rattle.lexer.specs.declared.Lexed.{Lexed}
@@ -74,7 +74,7 @@ outside (Digits st minus r x) = false
 
 -- of the tokens that are no literals, the one of n bytes that begins with the byte b
 abbrev pub tokenBy : ℕ → ℕ → Token
-tokenBy b n = cond (eqb b 40) token.LParen (cond (eqb b 41) token.RParen (cond (eqb b 64) token.At (token.Symbol n)))
+tokenBy b n = cond (lparen (classOf b)) token.LParen (cond (rparen (classOf b)) token.RParen (cond (atSign (classOf b)) token.At (token.Symbol n)))
 
 -- the symbol that begins at j and ends before `stop`, if it was seen, is the one that is handed out, wherever below the limit the piece stands
 abbrev pub Ran : List ℕ → ℕ → ℕ → Seen → Type 0

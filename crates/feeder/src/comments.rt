@@ -17,10 +17,10 @@ pub enum Inside {
 fn half_of(b: u8) -> Half
     ensures { λ r. ⌜ r ≡ half (classOf b) ⌝ }
 {
-    if b == 59 {
+    if classes::is_semicolon(b) {
         return Half::Semi;
     }
-    if b == 40 {
+    if classes::is_lparen(b) {
         return Half::Paren;
     }
     Half::Clear
@@ -33,7 +33,7 @@ fn inside_by(b: u8, depth: usize, half: Half) -> Inside
     match half {
         Half::Clear => Inside::In(depth, half_of(b)),
         Half::Semi => {
-            if b == 41 {
+            if classes::is_rparen(b) {
                 if depth <= 1 {
                     return Inside::Out;
                 }
@@ -42,7 +42,7 @@ fn inside_by(b: u8, depth: usize, half: Half) -> Inside
             Inside::In(depth, half_of(b))
         }
         Half::Paren => {
-            if b == 59 {
+            if classes::is_semicolon(b) {
                 if depth < refusals::SOURCE_LIMIT {
                     return Inside::In(depth + 1, Half::Clear);
                 }

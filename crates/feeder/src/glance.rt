@@ -15,13 +15,13 @@ pub struct Seen {
 pub fn token_by(b: u8, n: usize) -> Token
     ensures { λ r. ⌜ r ≡ tokenBy b n ⌝ }
 {
-    if b == 40 {
+    if classes::is_lparen(b) {
         return Token::LParen;
     }
-    if b == 41 {
+    if classes::is_rparen(b) {
         return Token::RParen;
     }
-    if b == 64 {
+    if classes::is_at_sign(b) {
         return Token::At;
     }
     Token::Symbol(n)
@@ -32,13 +32,9 @@ fn symbol_to(piece: &[u8], j: usize, stop: usize) -> Seen
     requires { ⌜ (j < stop) × (stop ≤ length (now piece)) ⌝ }
     ensures { λ r. ⌜ Ran (now (piece .entry)) j stop r ⌝ }
 {
-    let mut k = j + 1;
-    while k < stop {
-        if classes::is_sym_other_char(piece[k]) {
-            k += 1;
-        } else {
-            return Seen { start: j, end: k };
-        }
+    let k = classes::runs::symbol_end(&piece[..stop], j + 1);
+    if k < stop {
+        return Seen { start: j, end: k };
     }
     Seen { start: 0, end: 0 }
 }
@@ -54,18 +50,18 @@ pub fn token_ahead(piece: &[u8], stop: usize) -> Seen
         if classes::is_blank(b) {
             j += 1;
         } else {
-            if 64 < b {
+            if classes::is_high(b) {
                 return symbol_to(piece, j, stop);
             }
-            if (b == 41) | (b == 64) {
+            if classes::is_rparen(b) | classes::is_at_sign(b) {
                 return Seen {
                     start: j,
                     end: j + 1,
                 };
             }
-            if b == 40 {
+            if classes::is_lparen(b) {
                 if j + 1 < stop {
-                    if piece[j + 1] == 59 {
+                    if classes::is_semicolon(piece[j + 1]) {
                         return Seen { start: 0, end: 0 };
                     }
                     return Seen {

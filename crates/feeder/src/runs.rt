@@ -38,7 +38,7 @@ fn in_blank(piece: &[u8], place: usize, i: usize, stop: usize) -> Moved
     let mut j = i;
     while j < stop {
         let b = piece[j];
-        match classes::class_of(b) {
+        match classes::class_in_loop(b) {
             Class::Space => {
                 j += 1;
             }
@@ -85,12 +85,9 @@ fn in_line(piece: &[u8], place: usize, i: usize, stop: usize) -> Moved
     requires { ⌜ Span (now piece) place i stop ⌝ }
     ensures { λ r. ⌜ Further i stop r × (moved (now (piece .entry)) place r ≡ call (now (piece .entry)) place i Line) ⌝ }
 {
-    let mut j = i;
-    while j < stop {
-        if classes::is_line_end(piece[j]) {
-            return Moved::On(Mode::Blank, j + 1);
-        }
-        j += 1;
+    let j = classes::runs::line_end(&piece[..stop], i);
+    if j < stop {
+        return Moved::On(Mode::Blank, j + 1);
     }
     Moved::On(Mode::Line, j)
 }
@@ -99,7 +96,7 @@ fn in_opener(piece: &[u8], place: usize, i: usize, stop: usize, start: usize) ->
     requires { ⌜ Span (now piece) place i stop ⌝ }
     ensures { λ r. ⌜ Further i stop r × (moved (now (piece .entry)) place r ≡ call (now (piece .entry)) place i (Opener start)) ⌝ }
 {
-    if piece[i] == 59 {
+    if classes::is_semicolon(piece[i]) {
         return Moved::On(
             Mode::Block {
                 start,

@@ -7,12 +7,11 @@ use native.Mathlib.Numerals.{add-one}
 use native.Mathlib.Omega.{arith}
 use lib.ListN.{length, getD, drop, drop-of-length-le}
 use Rattle.lists.proofs.Places.{from, first, within}
-use Rattle.refusals.specs.Numbers.{openComment}
 use Rattle.classes.specs.declared.Class.{Class}
 use Rattle.classes.specs.declared.Class.the-variants.{Space, LineEnd, Semicolon, LParen, RParen, AtSign, FormFeed, Minus, Digit, Other}
 use Rattle.classes.specs.Classes.{classOf, lparen, rparen, semicolon}
-use Rattle.refusals.specs.Result.{refused}
-use Rattle.lexer.specs.Lexing.{Skip, InBlock, Skipping, One, Two, leave, skip, lexIn}
+use Rattle.lexer.specs.Lexing.{Skip, InBlock, Skipping, One, Two, leave, skip}
+use Rattle.lexer.specs.Gaps.{unclosed, skipIn}
 use Rattle.lexer.specs.PrivateBlocks.{markOf}
 use Rattle.lexer.specs.declared.Mark.{Mark}
 use Rattle.lexer.specs.declared.Mark.the-variants.{Opener, Closer, Neither}
@@ -70,27 +69,27 @@ module _ (s : List ℕ) (i : ℕ) where
   two-close e = within s (i + 1) (positive (getD s i 0) (getD s (i + 1) 0) Closer e)
 
   module _ (d p : ℕ) where
-    pub block-past : length s ≤ i → lexIn 0 (InBlock d p) (drop i s) i ≡ refused openComment p
-    unfolding lexIn
+    pub block-past : length s ≤ i → skipIn 0 (InBlock d p) (drop i s) i ≡ unclosed p
+    unfolding skipIn
     block-past h = rw (drop-of-length-le s h)
 
     -- two bytes are passed, the second unread
     two-on : (k : Skip) → i + 1 < length s → skip (InBlock d p) (classOf (getD s i 0)) (classOf (getD s (i + 1) 0)) i ≡ Two k
-        → lexIn 0 (InBlock d p) (drop i s) i ≡ lexIn 0 k (drop (i + 2) s) (i + 2)
-    unfolding lexIn
+        → skipIn 0 (InBlock d p) (drop i s) i ≡ skipIn 0 k (drop (i + 2) s) (i + 2)
+    unfolding skipIn
     two-on k h e =
         let two : i + 1 + 1 ≡ i + 2 = omega arith in
         let places : suc (suc i) ≡ i + 2 = omega arith in
-        rw (← two, from s i (omega arith), lexIn, first s (i + 1), e, from s (i + 1) h) (ap (lexIn 0 k (drop (i + 1 + 1) s)) (places ∙ sym two))
+        rw (← two, from s i (omega arith), skipIn, first s (i + 1), e, from s (i + 1) h) (ap (skipIn 0 k (drop (i + 1 + 1) s)) (places ∙ sym two))
 
-    pub block-open : here ≡ Opener → lexIn 0 (InBlock d p) (drop i s) i ≡ lexIn 0 (InBlock (d + 1) p) (drop (i + 2) s) (i + 2)
+    pub block-open : here ≡ Opener → skipIn 0 (InBlock d p) (drop i s) i ≡ skipIn 0 (InBlock (d + 1) p) (drop (i + 2) s) (i + 2)
     block-open e = two-on (InBlock (d + 1) p) (two-open e) (marked d p i _ _ ∙ ap (byMark d p) e)
 
-    pub block-close : here ≡ Closer → lexIn 0 (InBlock d p) (drop i s) i ≡ lexIn 0 (leave d p) (drop (i + 2) s) (i + 2)
+    pub block-close : here ≡ Closer → skipIn 0 (InBlock d p) (drop i s) i ≡ skipIn 0 (leave d p) (drop (i + 2) s) (i + 2)
     block-close e = two-on (leave d p) (two-close e) (marked d p i _ _ ∙ ap (byMark d p) e)
 
-    pub block-go : i < length s → here ≡ Neither → lexIn 0 (InBlock d p) (drop i s) i ≡ lexIn 0 (InBlock d p) (drop (i + 1) s) (i + 1)
-    unfolding lexIn
+    pub block-go : i < length s → here ≡ Neither → skipIn 0 (InBlock d p) (drop i s) i ≡ skipIn 0 (InBlock d p) (drop (i + 1) s) (i + 1)
+    unfolding skipIn
     block-go h e =
         let k : skip (InBlock d p) (classOf (getD s i 0)) (classOf (getD s (i + 1) 0)) i ≡ One (InBlock d p) = marked d p i _ _ ∙ ap (byMark d p) e in
-        rw (from s i h, lexIn, first s (i + 1), k) (ap (lexIn 0 (InBlock d p) (drop (i + 1) s)) (sym (add-one i)))
+        rw (from s i h, skipIn, first s (i + 1), k) (ap (skipIn 0 (InBlock d p) (drop (i + 1) s)) (sym (add-one i)))

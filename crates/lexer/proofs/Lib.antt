@@ -4,3 +4,4 @@ pub mod Digits
 pub mod Starts
 pub mod Within
 pub mod DigitPlaces
+pub mod Skips

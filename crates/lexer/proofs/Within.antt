@@ -55,10 +55,10 @@ sooner s p q (refused n a) h l = tt
 sooner s p q (ok (is t)) h l = record { from = omega (arith, l .from); some = l .some; to = l .to; shaped = l .shaped }
 
 -- where the rest of a source begins with a byte, it has one
-inside : (s : List ℕ) (p b : ℕ) (l : List ℕ) → drop p s ≡ b ∷ l → p + suc (length l) ≡ length s
+pub inside : (s : List ℕ) (p b : ℕ) (l : List ℕ) → drop p s ≡ b ∷ l → p + suc (length l) ≡ length s
 inside s p b l e = let k : length s - p ≡ suc (length l) = sym (length-drop p s) ∙ ap length e in omega arith
 
-byte : (s : List ℕ) (p b : ℕ) (l : List ℕ) → drop p s ≡ b ∷ l → getD s p 0 ≡ b
+pub byte : (s : List ℕ) (p b : ℕ) (l : List ℕ) → drop p s ≡ b ∷ l → getD s p 0 ≡ b
 byte s p b l e = sym (first s p) ∙ ap (λ (r : List ℕ). getD r 0 0) e
 
 nothing : (s : List ℕ) (p : ℕ) → drop p s ≡ [] → getD s p 0 ≡ 0

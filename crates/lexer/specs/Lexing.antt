@@ -61,7 +61,7 @@ ended Between = ok end
 ended InLine = ok end
 ended (InBlock d p) = refused openComment p
 
-abbrev pub skipped : Skipping → Answer → (Skip → Answer) → (Skip → Answer) → Answer
+abbrev pub skipped : {A : Type 0} → Skipping → A → (Skip → A) → (Skip → A) → A
 skipped Stop here one two = here
 skipped (One k) here one two = one k
 skipped (Two k) here one two = two k

@@ -2,12 +2,9 @@
 use Prim.Native.Nat.{ℕ, _+_, _≤_}
 use mathlib.Core.List.{List}
 use mathlib.Core.Bool.{cond, _&&_}
-use Rattle.refusals.specs.Numbers.{openComment}
-use Rattle.refusals.specs.Result.{refused}
 use Rattle.classes.specs.declared.Class.{Class}
 use Rattle.classes.specs.Classes.{lparen, rparen, semicolon}
-use Rattle.lexer.specs.Tokens.{Answer}
-use Rattle.lexer.specs.Lexing.{lexAt}
+use Rattle.lexer.specs.Gaps.{Rest, unclosed, skipAt}
 use Rattle.lexer.specs.declared.Mark.{Mark}
 use Rattle.lexer.specs.declared.Mark.the-variants.{Opener, Closer, Neither}
 use Rattle.lexer.specs.declared.Block.{Block}
@@ -16,10 +13,10 @@ use Rattle.lexer.specs.declared.Block.the-variants.{Past, Open}
 abbrev pub markOf : Class → Class → Mark
 markOf c c′ = cond (lparen c && semicolon c′) Opener (cond (semicolon c && rparen c′) Closer Neither)
 
--- what is left to lex of s behind a block comment that was opened at a place
-abbrev pub blockLeft : Block → List ℕ → ℕ → Answer
-blockLeft (Past i) s st = lexAt s i
-blockLeft Open s st = refused openComment st
+-- where skipping s stops behind a block comment that was opened at a place
+abbrev pub blockLeft : Block → List ℕ → ℕ → Rest
+blockLeft (Past i) s st = skipAt s i
+blockLeft Open s st = unclosed st
 
 -- a block comment ends behind its opener
 abbrev pub Beyond : Block → ℕ → Type 0

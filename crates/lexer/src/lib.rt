@@ -7,12 +7,13 @@ use wide::Wide;
 ghost use mathlib.Core.Path.{_≡_};
 ghost use mathlib.Core.Bool.{true, false};
 ghost use Prim.Native.Nat.{_+_, _-_, _≤_, _<_};
-ghost use lib.ListN.{length, getD, drop};
+ghost use lib.ListN.{length, drop};
 ghost use Rattle.classes.specs.Classes.{classOf};
 ghost use Rattle.refusals.specs.Numbers.{sourceLimit};
 ghost use Rattle.lexer.specs.Tokens.{answerOf};
 ghost use Rattle.lexer.specs.Literals.{unsignedIn};
-ghost use Rattle.lexer.specs.Lexing.{Between, InLine, InBlock, symbolEnd, lexIn, lexAt, nextToken};
+ghost use Rattle.lexer.specs.Lexing.{InBlock, lexAt, nextToken};
+ghost use Rattle.lexer.specs.Gaps.{skipIn, gapEnd};
 ghost use Rattle.lexer.specs.PrivateBlocks.{markOf, blockLeft, Beyond};
 
 pub enum Token {
@@ -45,27 +46,13 @@ enum Block {
     Open,
 }
 
-// The end of the line that a line comment takes, or of the source.
-fn line_end(src: &[u8], at: usize) -> usize
-    ensures { λ r. ⌜ (at ≤ r) × (lexIn 0 Between (drop r (now (src .entry))) r ≡ lexIn 0 InLine (drop at (now (src .entry))) at) ⌝ }
-{
-    let mut i = at;
-    while i < src.len() {
-        if classes::is_line_end(src[i]) {
-            return i;
-        }
-        i += 1;
-    }
-    i
-}
-
 fn mark_of(b: u8, c: u8) -> Mark
     ensures { λ r. ⌜ r ≡ markOf (classOf b) (classOf c) ⌝ }
 {
-    if (b == 40) & (c == 59) {
+    if classes::is_lparen(b) & classes::is_semicolon(c) {
         return Mark::Opener;
     }
-    if (b == 59) & (c == 41) {
+    if classes::is_semicolon(b) & classes::is_rparen(c) {
         return Mark::Closer;
     }
     Mark::Neither
@@ -74,7 +61,7 @@ fn mark_of(b: u8, c: u8) -> Mark
 // The end of the block comment whose `(;` stands at `start`.
 fn block_end(src: &[u8], start: usize) -> Block
     requires { ⌜ start + 2 ≤ length (now src) ⌝ }
-    ensures { λ r. ⌜ Beyond r start × (blockLeft r (now (src .entry)) start ≡ lexIn 0 (InBlock 1 start) (drop (start + 2) (now (src .entry))) (start + 2)) ⌝ }
+    ensures { λ r. ⌜ Beyond r start × (blockLeft r (now (src .entry)) start ≡ skipIn 0 (InBlock 1 start) (drop (start + 2) (now (src .entry))) (start + 2)) ⌝ }
 {
     let mut i = start + 2;
     let mut depth: usize = 1;
@@ -99,15 +86,56 @@ fn block_end(src: &[u8], start: usize) -> Block
     Block::Open
 }
 
-// The place past the bytes that a symbol runs on over.
-fn symbol_end(src: &[u8], at: usize) -> usize
-    ensures { λ r. ⌜ (at ≤ r) × (r ≡ symbolEnd (drop at (now (src .entry))) at) ⌝ }
+// The place where what comes next begins, behind blanks and comments; of a block comment that is never closed, its own.
+fn gap_from(src: &[u8], at: usize) -> usize
+    ensures { λ r. ⌜ r ≡ gapEnd (now (src .entry)) at ⌝ }
 {
     let mut i = at;
     while i < src.len() {
-        if classes::is_sym_other_char(src[i]) {
+        let b = src[i];
+        if classes::is_blank(b) {
             i += 1;
         } else {
+            if classes::is_semicolon(b) {
+                i = classes::runs::line_end(src, i + 1);
+            } else {
+                if classes::is_lparen(b) & classes::is_semicolon(lists::byte_at(src, i + 1)) {
+                    match block_end(src, i) {
+                        Block::Past(j) => {
+                            i = j;
+                        }
+                        Block::Open => {
+                            return i;
+                        }
+                    }
+                } else {
+                    return i;
+                }
+            }
+        }
+    }
+    i
+}
+
+// The same. Most gaps are blanks alone: any other is left to the routine above, so that the compiler takes this one into a caller's loop.
+pub fn gap_end(src: &[u8], at: usize) -> usize
+    ensures { λ r. ⌜ r ≡ gapEnd (now (src .entry)) at ⌝ }
+{
+    let mut i = at;
+    while i < src.len() {
+        let b = src[i];
+        if classes::is_blank(b) {
+            i += 1;
+        } else {
+            if classes::is_semicolon(b) {
+                return gap_from(src, i);
+            }
+            if classes::is_lparen(b) {
+                if classes::is_semicolon(lists::byte_at(src, i + 1)) {
+                    return gap_from(src, i);
+                }
+                return i;
+            }
             return i;
         }
     }
@@ -153,9 +181,40 @@ fn anew(l: Lexed) -> Lexed
     }
 }
 
-// The next token of the source from a place on, with its start; the end; or a refusal. Blanks and comments are passed, and the first
-// other byte decides. One loop in one function: an answer that a call wrote would be copied whole on every return. A literal's reader gets
-// a slice of its own, so that this one's pointer and length stay in registers.
+// The next token from a place on, whatever byte it begins with: here the table says what a byte is, once a token.
+fn token_from(src: &[u8], at: usize) -> Lexed
+    requires { ⌜ (at ≤ length (now src)) × (length (now src) ≤ sourceLimit) ⌝ }
+    ensures { λ r. ⌜ answerOf r ≡ lexAt (now (src .entry)) at ⌝ }
+{
+    let i = gap_from(src, at);
+    if src.len() <= i {
+        return Lexed::End;
+    }
+    match classes::class_of(src[i]) {
+        // A gap ends at none of these three.
+        Class::Space => Lexed::End,
+        Class::LineEnd => Lexed::End,
+        Class::Semicolon => Lexed::End,
+        Class::LParen => {
+            if classes::is_semicolon(lists::byte_at(src, i + 1)) {
+                return refused(refusals::OPEN_COMMENT, i);
+            }
+            Lexed::Token(Token::LParen, i)
+        }
+        Class::RParen => Lexed::Token(Token::RParen, i),
+        Class::AtSign => Lexed::Token(Token::At, i),
+        Class::FormFeed => refused(refusals::FORM_FEED, i),
+        Class::Minus => unsigned_at(src, true, i, i + 1),
+        Class::Digit => unsigned_at(src, false, i, i),
+        Class::Other => {
+            let len = classes::runs::symbol_end(src, i + 1) - i;
+            Lexed::Token(Token::Symbol(len), i)
+        }
+    }
+}
+
+// The next token of the source from a place on, with its start; the end; or a refusal. The bytes that most tokens begin with are told by comparisons, which a
+// loop asks at less cost than the table; the rest is left to `token_from`. It gets a slice of its own, so that this one's pointer and length stay in registers.
 pub fn next_token(src: &[u8], at: usize) -> Lexed
     ensures { λ r. ⌜ answerOf r ≡ nextToken (now (src .entry)) at ⌝ }
 {
@@ -167,50 +226,29 @@ pub fn next_token(src: &[u8], at: usize) -> Lexed
     }
     let mut i = at;
     while i < src.len() {
-        match classes::class_of(src[i]) {
-            Class::Space => {
-                i += 1;
+        let b = src[i];
+        if classes::is_blank(b) {
+            i += 1;
+        } else {
+            if classes::is_high(b) {
+                let len = classes::runs::symbol_end(src, i + 1) - i;
+                return Lexed::Token(Token::Symbol(len), i);
             }
-            Class::LineEnd => {
-                i += 1;
-            }
-            Class::Semicolon => {
-                i = line_end(src, i + 1);
-            }
-            Class::LParen => {
-                if lists::byte_at(src, i + 1) == 59 {
-                    match block_end(src, i) {
-                        Block::Past(j) => {
-                            i = j;
-                        }
-                        Block::Open => {
-                            return refused(refusals::OPEN_COMMENT, i);
-                        }
-                    }
-                } else {
-                    return Lexed::Token(Token::LParen, i);
-                }
-            }
-            Class::RParen => {
+            if classes::is_rparen(b) {
                 return Lexed::Token(Token::RParen, i);
             }
-            Class::AtSign => {
-                return Lexed::Token(Token::At, i);
+            if classes::is_lparen(b) {
+                if classes::is_semicolon(lists::byte_at(src, i + 1)) {
+                    let other = token_from(&src[..], i);
+                    return anew(other);
+                }
+                return Lexed::Token(Token::LParen, i);
             }
-            Class::FormFeed => {
-                return refused(refusals::FORM_FEED, i);
-            }
-            Class::Minus => {
-                let literal = unsigned_at(&src[..], true, i, i + 1);
-                return anew(literal);
-            }
-            Class::Digit => {
-                let literal = unsigned_at(&src[..], false, i, i);
-                return anew(literal);
-            }
-            Class::Other => {
-                let len = symbol_end(src, i + 1) - i;
-                return Lexed::Token(Token::Symbol(len), i);
+            if classes::is_semicolon(b) {
+                i = classes::runs::line_end(src, i + 1);
+            } else {
+                let other = token_from(&src[..], i);
+                return anew(other);
             }
         }
     }

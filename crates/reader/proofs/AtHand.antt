@@ -29,7 +29,7 @@ use Rattle.records.proofs.Heads.{length-record}
 use Rattle.table.specs.Kinds.{integerKind, listKind, integerLen, listLen}
 use Rattle.table.specs.Trees.{Trees, integer, list, count, records, recordsOf}
 use Rattle.reader.specs.Grammar.{after, One, got, closed, Many, upTo, toEnd, listed, readItems, readTree}
-use Rattle.reader.specs.PrivateWalk.{Lexes, due, TreeTold, ItemsTold, LeftKind, LeftOver, pastOf}
+use Rattle.reader.specs.PrivateWalk.{Lexes, due, TreeTold, ItemsTold, LeftKind, LeftOver}
 use Rattle.reader.specs.declared.parts.Stop.{Stop}
 use Rattle.reader.specs.declared.parts.Stop.the-variants as stop
 use Rattle.reader.proofs.Derivation.{ManyIs, items-is}
@@ -44,9 +44,6 @@ module _ (x : Lexed) (c : CodeToken) (p : ℕ) where
 
   pub left-token : (k : CodeToken) (d : Bool) → x ≡ lexed.Token c p → c ≡ k → LeftKind d (tokenOf k p .kind) → LeftOver d (answerOf x)
   left-token k d e f h = subst⁻¹ (LeftOver d) (hand k e f) h
-
-  pub sign-past : {k : ℕ} → x ≡ lexed.Token c p → c ≡ code.At → pastOf (answerOf x) ≤ k → p + 1 ≤ k
-  sign-past {k} e f h = subst (λ (a : Answer). pastOf a ≤ k) (hand code.At e f) h
 
 pub left-end : (x : Lexed) (d : Bool) → x ≡ lexed.End → d ≡ true → LeftOver d (answerOf x)
 left-end x d e f = subst⁻¹ (λ (y : Lexed). LeftOver d (answerOf y)) e f
@@ -110,7 +107,7 @@ module _ (s : List ℕ) (d : ℕ) (x : Lexed) where
       pub past-hand : (k : CodeToken) → c ≡ k → (past (tokenOf k p) ≤ length s) × (length s ≤ sourceLimit)
       past-hand k f =
           let h : Lexes s (ok (is (tokenOf k p))) = subst (Lexes s) (hand x c p k e f) l in
-          (past-top s (ok (is (tokenOf k p))) h, limited s (h .place) (tokenOf k p) (h .gives))
+          (past-top s (tokenOf k p) h, limited s (h .place) (tokenOf k p) (h .gives))
 
       -- a list
       module _ (f : c ≡ code.LParen) where
@@ -157,7 +154,7 @@ module _ (s : List ℕ) (d : ℕ) (x : Lexed) where
                 let w = told stop.Close g in
                 let r = items-span .lexes in
                 let z = limited s (r .place) u (r .gives) in
-                (omega (arith, w .3, z, past-top s (ok (is u)) r), omega (arith, w .5, items-span .size, z, weigh-top s (ok (is u)) r))
+                (omega (arith, w .3, z, past-top s u r), omega (arith, w .5, items-span .size, z, weigh-top s (ok (is u)) r))
 
             -- a `)` has one byte
             one-byte : u .size ≡ 1

@@ -8,12 +8,10 @@ use lib.IntN.{ℤ}
 use lib.ListN.{length}
 use Rattle.refusals.specs.Numbers.{noSymbol, tooDeep}
 use Rattle.refusals.specs.Result.{Result, ok, refused, andThen}
-use Rattle.lexer.specs.Tokens.{Kind, lparen, rparen, at-sign, symbol, int, Token, past, Answer, end, is}
-use Rattle.lexer.specs.Lexing.{nextToken}
+use Rattle.lexer.specs.Tokens.{Kind, lparen, rparen, at-sign, symbol, int, Token, Answer, end, is}
+use Rattle.lexer.proofs.Skips.{NoSignKind, NoSign}
 use Rattle.table.specs.Trees.{symbol as symbolTree, integer}
 use Rattle.reader.specs.Grammar.{nameOf, after, One, got, closed, ended, Many, readItems, listed, bound, ifAt, named, begun, readTree}
-use Rattle.reader.specs.PrivateWalk.{signOf}
-use Rattle.reader.specs.declared.parts.Sign.the-variants.{At, Other}
 
 module _ (s : List ℕ) where
   -- at a depth that is not 0, and at any depth
@@ -65,44 +63,33 @@ module _ (s : List ℕ) where
   read-deep d t e h = flat d t lparen e h
 
   -- by what follows a symbol
-  named-other : (b : Bool) (sub : Answer → Result One) (t : Token) (a : Answer) → signOf a ≡ Other → named s b sub t a ≡ ok (got (symbolTree (nameOf s t)) a)
+  named-other : (b : Bool) (sub : Answer → Result One) (t : Token) (a : Answer) → NoSign a → named s b sub t a ≡ ok (got (symbolTree (nameOf s t)) a)
   named-other b sub t (ok end) e = refl
   named-other b sub t (refused n p) e = refl
   named-other b sub t (ok (is u)) e = by (u .kind) e
     where
-      by : (k : Kind) → ifAt k (At (past u)) Other ≡ Other
+      by : (k : Kind) → NoSignKind k
           → ifAt k (cond b (andThen (sub (after s u)) (bound s (nameOf s t))) (refused tooDeep (t .start))) (ok (got (symbolTree (nameOf s t)) (ok (is u))))
           ≡ ok (got (symbolTree (nameOf s t)) (ok (is u)))
       by lparen e = refl
       by rparen e = refl
       by symbol e = refl
       by (int z) e = refl
-      by at-sign e = let z : _≡_ {A = ℕ} 0 1 = cc in absurd (omega arith)
+      by at-sign e = absurd e
 
-  named-at : (b : Bool) (sub : Answer → Result One) (t : Token) (a : Answer) (q : ℕ) → signOf a ≡ At q
-      → named s b sub t a ≡ cond b (andThen (sub (nextToken s q)) (bound s (nameOf s t))) (refused tooDeep (t .start))
-  named-at b sub t (ok end) q e = let z : _≡_ {A = ℕ} 0 1 = cc in absurd (omega arith)
-  named-at b sub t (refused n p) q e = let z : _≡_ {A = ℕ} 0 1 = cc in absurd (omega arith)
-  named-at b sub t (ok (is u)) q e = by (u .kind) e
-    where
-      by : (k : Kind) → ifAt k (At (past u)) Other ≡ At q
-          → ifAt k (cond b (andThen (sub (after s u)) (bound s (nameOf s t))) (refused tooDeep (t .start))) (ok (got (symbolTree (nameOf s t)) (ok (is u))))
-          ≡ cond b (andThen (sub (nextToken s q)) (bound s (nameOf s t))) (refused tooDeep (t .start))
-      by lparen e = let z : _≡_ {A = ℕ} 0 1 = cc in absurd (omega arith)
-      by rparen e = let z : _≡_ {A = ℕ} 0 1 = cc in absurd (omega arith)
-      by symbol e = let z : _≡_ {A = ℕ} 0 1 = cc in absurd (omega arith)
-      by (int z) e = let z : _≡_ {A = ℕ} 0 1 = cc in absurd (omega arith)
-      by at-sign e =
-          let k : past u ≡ q = cc in
-          ap (λ (p : ℕ). cond b (andThen (sub (nextToken s p)) (bound s (nameOf s t))) (refused tooDeep (t .start))) k
+  named-at : (b : Bool) (sub : Answer → Result One) (t u : Token) (a : Answer) → a ≡ ok (is u) → u .kind ≡ at-sign
+      → named s b sub t a ≡ cond b (andThen (sub (after s u)) (bound s (nameOf s t))) (refused tooDeep (t .start))
+  named-at b sub t u a e f =
+      ap (named s b sub t) e
+      ∙ ap (λ (k : Kind). ifAt k (cond b (andThen (sub (after s u)) (bound s (nameOf s t))) (refused tooDeep (t .start))) (ok (got (symbolTree (nameOf s t)) (ok (is u))))) f
 
-  pub read-name : (d : ℕ) (t : Token) → t .kind ≡ symbol → signOf (after s t) ≡ Other → readTree s d (ok (is t)) ≡ ok (got (symbolTree (nameOf s t)) (after s t))
+  pub read-name : (d : ℕ) (t : Token) → t .kind ≡ symbol → NoSign (after s t) → readTree s d (ok (is t)) ≡ ok (got (symbolTree (nameOf s t)) (after s t))
   read-name d t e f =
       any (λ (x : Result One). x ≡ ok (got (symbolTree (nameOf s t)) (after s t))) d t symbol e (λ b sub items. named-other b sub t (after s t) f)
 
-  pub read-bind : (d : ℕ) (t : Token) (q : ℕ) → t .kind ≡ symbol → signOf (after s t) ≡ At q → (d ≡ 0 → ⊥)
-      → readTree s d (ok (is t)) ≡ andThen (readTree s (d - 1) (nextToken s q)) (bound s (nameOf s t))
-  read-bind d t q e f h = deeper d t symbol e h ∙ named-at true (readTree s (d - 1)) t (after s t) q f
+  pub read-bind : (d : ℕ) (t u : Token) → t .kind ≡ symbol → after s t ≡ ok (is u) → u .kind ≡ at-sign → (d ≡ 0 → ⊥)
+      → readTree s d (ok (is t)) ≡ andThen (readTree s (d - 1) (after s u)) (bound s (nameOf s t))
+  read-bind d t u e f g h = deeper d t symbol e h ∙ named-at true (readTree s (d - 1)) t u (after s t) f g
 
-  pub read-bind-deep : (d : ℕ) (t : Token) (q : ℕ) → t .kind ≡ symbol → signOf (after s t) ≡ At q → d ≡ 0 → readTree s d (ok (is t)) ≡ refused tooDeep (t .start)
-  read-bind-deep d t q e f h = flat d t symbol e h ∙ named-at false (λ _. ok ended) t (after s t) q f
+  pub read-bind-deep : (d : ℕ) (t u : Token) → t .kind ≡ symbol → after s t ≡ ok (is u) → u .kind ≡ at-sign → d ≡ 0 → readTree s d (ok (is t)) ≡ refused tooDeep (t .start)
+  read-bind-deep d t u e f g h = flat d t symbol e h ∙ named-at false (λ _. ok ended) t u (after s t) f g

@@ -9,7 +9,6 @@ use lib.Seq.{length-take-le}
 use Rattle.refusals.specs.Numbers.{sourceLimit}
 use Rattle.refusals.specs.Result.{ok, refused}
 use Rattle.lexer.specs.Tokens.{Kind, lparen, rparen, at-sign, symbol, int, Token, past, Answer, end, is}
-use Rattle.lexer.specs.Lexing.{nextToken}
 use Rattle.lexer.proofs.Within.{Lies, within, limited, apart}
 use Rattle.wide.specs.Bytes.{le, wideBytes}
 use Rattle.wide.proofs.Numbers.{le-length, wide-length}
@@ -17,9 +16,8 @@ use Rattle.records.specs.Records.{headLen, record-of}
 use Rattle.table.specs.Kinds.{symbolKind, integerKind, bindingKind, listKind, integerLen, listLen}
 use Rattle.table.specs.Trees.{Tree, Trees, symbol as symbolTree, integer, binding, list, none, more, count, records, recordsOf}
 use Rattle.records.proofs.Heads.{length-record}
-use Rattle.reader.specs.Grammar.{nameOf, after, ifAt}
-use Rattle.reader.specs.PrivateWalk.{pastOf, signOf, Lexes}
-use Rattle.reader.specs.declared.parts.Sign.the-variants.{At, Other}
+use Rattle.reader.specs.Grammar.{nameOf, after}
+use Rattle.reader.specs.PrivateWalk.{Lexes}
 use Rattle.reader.proofs.Derivation.{Derives, DerivesAll}
 
 -- the place of a token; of the end and of a refusal, the source's length l
@@ -98,20 +96,18 @@ after-lies s t h = by (after s t) refl
         }
 
 -- the place past a token, a token's place, and its weight are at most the source's
-pub past-top : (s : List ℕ) (a : Answer) → Lexes s a → pastOf a ≤ length s
-past-top s (ok end) h = omega arith
-past-top s (refused n p) h = omega arith
-past-top s (ok (is t)) h = within s (h .place) t (h .gives) .to
+pub past-top : (s : List ℕ) (t : Token) → Lexes s (ok (is t)) → past t ≤ length s
+past-top s t h = within s (h .place) t (h .gives) .to
 
 pub place-top : (s : List ℕ) (a : Answer) → Lexes s a → place (length s) a ≤ length s
 place-top s (ok end) h = omega arith
 place-top s (refused n p) h = omega arith
-place-top s (ok (is t)) h = omega (arith, past-top s (ok (is t)) h)
+place-top s (ok (is t)) h = omega (arith, past-top s t h)
 
 pub weigh-top : (s : List ℕ) (a : Answer) → Lexes s a → weigh (length s) a ≤ 29 * length s + 15
 weigh-top s (ok end) h = omega arith
 weigh-top s (refused n p) h = omega arith
-weigh-top s (ok (is t)) h = omega (arith, past-top s (ok (is t)) h)
+weigh-top s (ok (is t)) h = omega (arith, past-top s t h)
 
 -- ---- the sizes of records
 
@@ -160,41 +156,27 @@ integer-spans s t z k h =
       size = omega (arith, o .weighs, o .some);
     }
 
-at-past : (k : Kind) (p q : ℕ) → ifAt k (At p) Other ≡ At q → p ≡ q
-at-past at-sign p q e = cc
-at-past lparen p q e = let z : _≡_ {A = ℕ} 0 1 = cc in absurd (omega arith)
-at-past rparen p q e = let z : _≡_ {A = ℕ} 0 1 = cc in absurd (omega arith)
-at-past symbol p q e = let z : _≡_ {A = ℕ} 0 1 = cc in absurd (omega arith)
-at-past (int i) p q e = let z : _≡_ {A = ℕ} 0 1 = cc in absurd (omega arith)
+-- a name, and the token behind it
+pub name-spans : (s : List ℕ) (t u : Token) → Lexes s (ok (is t)) → after s t ≡ ok (is u)
+    → Spans s (ok (is t)) (after s u) (length (record-of bindingKind (nameOf s t)))
+name-spans s t u h e =
+    let o : Onward s t (ok (is u)) = subst (Onward s t) e (after-lies s t h) in
+    let w = after-lies s u (subst (Lexes s) e (next-of s t)) in
+    let m : length (record-of bindingKind (nameOf s t)) ≡ t .size + headLen =
+    length-record bindingKind (nameOf s t) ∙ ap (λ (k : ℕ). k + headLen) (name-length s t (omega (arith, o .to, o .top))) in
+    record {
+      lexes = next-of s u;
+      on = omega (arith, o .some, o .to, w .some, w .to);
+      top = w .top;
+      small = o .small;
+      size = omega (arith, o .weighs, o .some, w .weighs, w .some);
+    }
 
--- a name, and the `@` behind it up to the place q
-pub name-spans : (s : List ℕ) (t : Token) (q : ℕ) → Lexes s (ok (is t)) → signOf (after s t) ≡ At q
-    → Spans s (ok (is t)) (nextToken s q) (length (record-of bindingKind (nameOf s t)))
-name-spans s t q h e = by (after s t) (after-lies s t h) (next-of s t) e
-  where
-    by : (a : Answer) → Onward s t a → Lexes s a → signOf a ≡ At q → Spans s (ok (is t)) (nextToken s q) (length (record-of bindingKind (nameOf s t)))
-    by (ok end) o l e = let z : _≡_ {A = ℕ} 0 1 = cc in absurd (omega arith)
-    by (refused n p) o l e = let z : _≡_ {A = ℕ} 0 1 = cc in absurd (omega arith)
-    by (ok (is u)) o l e =
-        let qe : past u ≡ q = at-past (u .kind) (past u) q e in
-        let w = after-lies s u l in
-        let m : length (record-of bindingKind (nameOf s t)) ≡ t .size + headLen =
-        length-record bindingKind (nameOf s t) ∙ ap (λ (k : ℕ). k + headLen) (name-length s t (omega (arith, o .to, o .top))) in
-        subst (λ (p : ℕ). Spans s (ok (is t)) (nextToken s p) (length (record-of bindingKind (nameOf s t)))) qe
-        (record {
-          lexes = next-of s u;
-          on = omega (arith, o .some, o .to, w .some, w .to);
-          top = w .top;
-          small = o .small;
-          size = omega (arith, o .weighs, o .some, w .weighs, w .some);
-        })
-
-binding-spans : (s : List ℕ) (t u : Token) (x : Tree) (b : Answer) → Lexes s (ok (is t)) → after s t ≡ ok (is u) → u .kind ≡ at-sign
+binding-spans : (s : List ℕ) (t u : Token) (x : Tree) (b : Answer) → Lexes s (ok (is t)) → after s t ≡ ok (is u)
     → Spans s (after s u) b (length (records x)) → Spans s (ok (is t)) b (length (records (binding (nameOf s t) x)))
 unfolding records
-binding-spans s t u x b h e k w =
-    let sign : signOf (after s t) ≡ At (past u) = ap signOf e ∙ ap (λ (i : Kind). ifAt i (At (past u)) Other) k in
-    let n = name-spans s t (past u) h sign in
+binding-spans s t u x b h e w =
+    let n = name-spans s t u h e in
     let l = length-append (record-of bindingKind (nameOf s t)) (records x) in
     record { lexes = w .lexes; on = omega (arith, n .on, w .on); top = w .top; small = w .small; size = omega (arith, n .size, w .size) }
 
@@ -233,7 +215,7 @@ mutual
       let u = w .1 in
       subst⁻¹ (λ (c : Answer). Spans s c b (length (records (binding n x)))) (w .2)
       (subst⁻¹ (λ (m : List ℕ). Spans s (ok (is t)) b (length (records (binding m x)))) (w .4)
-      (binding-spans s t u x b (subst (Lexes s) (w .2) h) (w .5) (w .6) (spans x s (d - 1) (after s u) b (next-of s u) (w .8))))
+      (binding-spans s t u x b (subst (Lexes s) (w .2) h) (w .5) (spans x s (d - 1) (after s u) b (next-of s u) (w .8))))
   spans (list xs) s d a b h w =
       let t = w .0 in
       let u = w .1 in

@@ -6,16 +6,16 @@ use native.Mathlib.Omega.{arith}
 use lib.ListN.{length, take, drop}
 use Rattle.refusals.specs.Numbers.{depthLimit}
 use Rattle.refusals.specs.Result.{Result, ok, refused, andThen}
-use Rattle.lexer.specs.Tokens.{Kind, lparen, rparen, at-sign, symbol, int, Token, past, Answer, end, is}
+use Rattle.lexer.specs.Tokens.{Kind, lparen, rparen, at-sign, symbol, int, Token, Answer, end, is}
 use Rattle.lexer.specs.Lexing.{nextToken}
 use Rattle.lexer.specs.Streams.{Series, ends, then}
 use Rattle.lexer.specs.BareTokens.{Bare, open-paren, close-paren, at-sign as bare-at, name, number, bareOf}
+use Rattle.lexer.proofs.Skips.{NoSignKind, NoSign}
 use Rattle.table.specs.Trees.{Tree, Trees, symbol as symbolTree, integer, binding, list, none, more, treeTokens, treesTokens, Good, Goods}
 use Rattle.reader.specs.Promised.{ReadAccepts}
-use Rattle.reader.specs.Grammar.{nameOf, after, One, got, Many, upTo, toEnd, cons, onward, readItems, listed, bound, ifAt, readTree, whole, fileOf}
-use Rattle.reader.specs.PrivateWalk.{signOf, Lexes}
+use Rattle.reader.specs.Grammar.{nameOf, after, One, got, Many, upTo, toEnd, cons, onward, readItems, listed, bound, readTree, whole, fileOf}
+use Rattle.reader.specs.PrivateWalk.{Lexes}
 use Rattle.reader.specs.Nesting.{Nested, NestedAll}
-use Rattle.reader.specs.declared.parts.Sign.the-variants.{At, Other}
 use Rattle.reader.proofs.Bounds.{place, next-of}
 use Rattle.reader.proofs.Walk.{got-spans}
 use Rattle.reader.proofs.Begins.{read-end, read-rparen, read-int, read-list, read-name, read-bind}
@@ -110,17 +110,17 @@ heard-kind {s} h =
     subst (λ (j : Bare). KindOf j (t .kind) (nameOf s t)) (h .item) (kind-of s (t .start) (t .size) (t .kind))
 
 -- no `@` follows
-sign-other : (s : List ℕ) (a : Answer) (k : Series Bare) → Lexes s a → heard s a ≡ k → NoAt k → signOf a ≡ Other
-sign-other s (ok end) k h e g = refl
-sign-other s (refused n p) k h e g = refl
+sign-other : (s : List ℕ) (a : Answer) (k : Series Bare) → Lexes s a → heard s a ≡ k → NoAt k → NoSign a
+sign-other s (ok end) k h e g = tt
+sign-other s (refused n p) k h e g = tt
 sign-other s (ok (is u)) k h e g = by (u .kind) (subst⁻¹ NoAt (sym (heard-token s u h) ∙ e) g)
   where
-    by : (c : Kind) → NotAt (bareOf s (u .start) (u .size) c) → ifAt c (At (past u)) Other ≡ Other
-    by lparen g = refl
-    by rparen g = refl
-    by symbol g = refl
-    by (int z) g = refl
-    by at-sign g = absurd g
+    by : (c : Kind) → NotAt (bareOf s (u .start) (u .size) c) → NoSignKind c
+    by lparen g = tt
+    by rparen g = tt
+    by symbol g = tt
+    by (int z) g = tt
+    by at-sign g = g
 
 -- ---- trees
 
@@ -195,11 +195,10 @@ mutual
       let w = heard-kind c in
       let c′ = hears s (after s t) bare-at (treeTokens x k) (next-of s t) (c .rest) in
       let u = c′ .token in
-      let sign : signOf (after s t) ≡ At (past u) = ap signOf (c′ .is-it) ∙ ap (λ (i : Kind). ifAt i (At (past u)) Other) (heard-kind c′) in
       let r = accept x s (d - 1) (after s u) k (g .1) f (next-of s u) (c′ .rest) in
       record {
         next = r .next;
-        reads = ap (readTree s d) (c .is-it) ∙ read-bind s d t (past u) (w .0) sign (λ z. omega (arith, g .0)) ∙ ap (λ (y : Result One). andThen y (bound s (nameOf s t))) (r .reads)
+        reads = ap (readTree s d) (c .is-it) ∙ read-bind s d t u (w .0) (c′ .is-it) (heard-kind c′) (λ z. omega (arith, g .0)) ∙ ap (λ (y : Result One). andThen y (bound s (nameOf s t))) (r .reads)
             ∙ ap (λ (m : List ℕ). ok (got (binding m x) (r .next))) (w .1);
         rest = r .rest;
       }

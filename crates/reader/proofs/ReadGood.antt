@@ -85,7 +85,7 @@ integer-good s t z h k = in-range z (subst (Shaped s (t .start) (t .size)) k (wi
 
 name-small : (s : List ℕ) (t : Token) → Lexes s (ok (is t)) → length (nameOf s t) + headLen < 2 ^ 32
 name-small s t h =
-    let p = past-top s (ok (is t)) h in
+    let p = past-top s t h in
     let n = name-length s t p in
     let l = limited s (h .place) t (h .gives) in
     omega arith

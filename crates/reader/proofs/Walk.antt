@@ -2,10 +2,10 @@
 use mathlib.Core.Path.{_≡_, refl, ap, sym, subst, subst⁻¹, _∙_}
 use mathlib.Core.Bool.{Bool, true, false}
 use mathlib.Core.List.{List, [], _++_, append-assoc, append-nil}
-use Prim.Native.Nat.{ℕ, suc, _+_, _*_, _-_, _≤_}
+use Prim.Native.Nat.{ℕ, suc, _+_, _*_, _-_, _≤_, _<_}
 use native.Mathlib.Omega.{arith}
 use lib.Dec.{ltb}
-use lib.ListN.{length, take, drop, length-append}
+use lib.ListN.{length, getD, take, drop, length-append}
 use lib.Seq.{take-at, drop-at, drop-drop}
 use borrow.Author.Tests.{lt-ltb}
 use borrow.Rule.Slice.PartMut.{putMid}
@@ -13,8 +13,12 @@ use Rattle.refusals.specs.Numbers.{sourceLimit, tableLimit, tooDeep}
 use Rattle.refusals.specs.Result.{Result, ok, refused, andThen}
 use Rattle.lists.specs.Over.{over}
 use Rattle.lists.proofs.Rooms.{puts-both}
+use Rattle.classes.specs.Classes.{classOf, atSign}
 use Rattle.lexer.specs.Tokens.{Kind, lparen, rparen, at-sign, symbol, int, token, Answer, end, is}
 use Rattle.lexer.specs.Lexing.{nextToken}
+use Rattle.lexer.specs.Gaps.{gapEnd}
+use Rattle.lexer.proofs.Skips.{gap-next, gap-sign, gap-other}
+use Rattle.lexer.proofs.Starts.{sign-within}
 use Rattle.lexer.proofs.Within.{limited}
 use Rattle.records.specs.Records.{headLen, record-of}
 use Rattle.records.proofs.Heads.{length-record}
@@ -22,13 +26,16 @@ use Rattle.table.specs.Kinds.{symbolKind, bindingKind}
 use Rattle.table.specs.Trees.{Tree, Trees, symbol as symbolTree, count, records, recordsOf}
 use Rattle.reader.specs.Grammar.{One, got, closed, ended, Many, upTo, toEnd, cons, onward, bound, nameOf, after, readItems, readTree}
 use Rattle.lists.specs.Rooms.{Filled, Puts}
-use Rattle.reader.specs.PrivateWalk.{Lexes, due, FilledFrom, TreeTold, ItemsTold, LeftKind, LeftOver, Seen, signOf, pastOf}
+use Rattle.reader.specs.PrivateWalk.{Lexes, due, FilledFrom, TreeTold, ItemsTold, LeftKind, LeftOver, Seen}
 use Rattle.reader.specs.declared.parts.Look.{Look}
 use Rattle.reader.specs.declared.parts.Stop.the-variants as stop
-use Rattle.reader.specs.declared.parts.Sign.the-variants.{At, Other}
 use Rattle.reader.proofs.Derivation.{OneIs, tree-is}
 use Rattle.reader.proofs.Bounds.{place, weigh, Spans, spans, name-spans, name-length, past-top, weigh-top}
 use Rattle.reader.proofs.Begins.{read-end, read-rparen, read-name, read-bind, read-bind-deep}
+
+-- what the code's test for an `@` tells of the byte
+pub sign-told : (r v : Bool) (b k : ℕ) → b ≡ k → r ≡ atSign (classOf b) → r ≡ v → atSign (classOf k) ≡ v
+sign-told r v b k e f g = sym (ap (λ (n : ℕ). atSign (classOf n)) e) ∙ sym f ∙ g
 
 -- ---- what is left
 
@@ -194,7 +201,7 @@ module _ {s : List ℕ} {depth : ℕ} {w : Result Many} {a₀ : Answer} {b₀ : 
       let k = subst (Left n (g .o) w (readItems (readTree s depth) (length s - n))) h (g .left) in
       (k .0, k .1, g .puts .0 ∙ sym (ap length (k .2)), filled (k .0) (k .2))
 
-  -- the token is a symbol of m bytes, and c the token after it
+  -- the token is a symbol of m bytes, and q the place behind the gap after it
   module _ (p m : ℕ) (e : a ≡ ok (is (token symbol p m))) where
     abbrev its : List ℕ
     its = nameOf s (token symbol p m)
@@ -203,7 +210,7 @@ module _ {s : List ℕ} {depth : ℕ} {w : Result Many} {a₀ : Answer} {b₀ : 
     its-lexes = subst (Lexes s) e (g .lexes)
 
     pub its-end : p + m ≤ length s
-    its-end = past-top s (ok (is (token symbol p m))) its-lexes
+    its-end = past-top s (token symbol p m) its-lexes
 
     pub its-small : length s ≤ sourceLimit
     its-small = limited s (its-lexes .place) (token symbol p m) (its-lexes .gives)
@@ -219,64 +226,64 @@ module _ {s : List ℕ} {depth : ℕ} {w : Result Many} {a₀ : Answer} {b₀ : 
         subst⁻¹ (λ (i : ℕ). Puts (g .o ++ record-of k its) (size + i) b₀ b′) (its-length k)
         (puts-from (g .o) (record-of k its) b₀ b b′ size (g .puts) (g .same) (subst (λ (i : ℕ). FilledFrom size (record-of k (take i (drop p s))) b b′) d f))
 
-    module _ (c : Answer) (ec : c ≡ nextToken s (p + m)) where
-      pub next-small : pastOf c ≤ sourceLimit
-      next-small = omega (arith, its-small, past-top s c (record { place = p + m; gives = sym ec }))
-
-      module _ (eo : signOf c ≡ Other) where
-        alone : readTree s (depth - j) a ≡ ok (got (symbolTree its) c)
+    module _ (q : ℕ) (eq : q ≡ gapEnd s (p + m)) where
+      -- no `@` stands there
+      module _ (no : atSign (classOf (getD s q 0)) ≡ false) where
+        alone : readTree s (depth - j) a ≡ ok (got (symbolTree its) (nextToken s q))
         alone =
-            ap (readTree s (depth - j)) e ∙ read-name s (depth - j) (token symbol p m) refl (ap signOf (sym ec) ∙ eo)
-            ∙ ap (λ (x : Answer). ok (got (symbolTree its) x)) (sym ec)
+            ap (readTree s (depth - j)) e ∙ read-name s (depth - j) (token symbol p m) refl (gap-other s (p + m) (ap (λ (i : ℕ). atSign (classOf (getD s i 0))) (sym eq) ∙ no))
+            ∙ ap (λ (x : Answer). ok (got (symbolTree its) x)) (sym (ap (nextToken s) eq ∙ gap-next s (p + m)))
 
-        pub symbol-spans : Spans s a c (m + headLen)
+        pub symbol-spans : Spans s a (nextToken s q) (m + headLen)
         unfolding records
-        symbol-spans = subst⁻¹ (Spans s a c) (its-length symbolKind) (got-spans s (depth - j) a c (symbolTree its) (g .lexes) alone)
+        symbol-spans = subst⁻¹ (Spans s a (nextToken s q)) (its-length symbolKind) (got-spans s (depth - j) a (nextToken s q) (symbolTree its) (g .lexes) alone)
 
         pub symbol-turn : (b′ : List ℕ) → FilledFrom size (record-of symbolKind (take (p + m - p) (drop p s))) b b′ → length b′ ≡ length b
-            → Going s depth w a₀ b₀ c 0 (n + 1) (size + (m + headLen)) b′
+            → Going s depth w a₀ b₀ (nextToken s q) 0 (n + 1) (size + (m + headLen)) b′
         unfolding records
         symbol-turn b′ f l =
-            tree-turn (symbolTree its) c (m + headLen) b′ (ap (awaited s (ltb 0 j)) alone ∙ awaited-got s (ltb 0 j) (symbolTree its) c)
-            (got-spans s (depth - j) a c (symbolTree its) (g .lexes) alone) (its-length symbolKind) (its-record symbolKind b′ f) (l ∙ g .same)
+            tree-turn (symbolTree its) (nextToken s q) (m + headLen) b′ (ap (awaited s (ltb 0 j)) alone ∙ awaited-got s (ltb 0 j) (symbolTree its) (nextToken s q))
+            (got-spans s (depth - j) a (nextToken s q) (symbolTree its) (g .lexes) alone) (its-length symbolKind) (its-record symbolKind b′ f) (l ∙ g .same)
 
-      module _ (q : ℕ) (ea : signOf c ≡ At q) where
-        sign : signOf (after s (token symbol p m)) ≡ At q
-        sign = ap signOf (sym ec) ∙ ea
+      module _ (yes : atSign (classOf (getD s q 0)) ≡ true) where
+        sign : after s (token symbol p m) ≡ ok (is (token at-sign q 1))
+        sign = rw eq (gap-sign s (p + m) its-small (ap (λ (i : ℕ). atSign (classOf (getD s i 0))) (sym eq) ∙ yes))
+
+        pub sign-in : q < length s
+        sign-in = sign-within s q yes
 
         pub deep-turn : j ≡ depth → w ≡ refused tooDeep p
         deep-turn f =
-            refused-turn tooDeep p (ap (awaited s (ltb 0 j)) (ap (readTree s (depth - j)) e ∙ read-bind-deep s (depth - j) (token symbol p m) q refl sign (omega arith))
-            ∙ awaited-refused s (ltb 0 j) tooDeep p)
+            refused-turn tooDeep p (ap (awaited s (ltb 0 j)) (ap (readTree s (depth - j)) e
+            ∙ read-bind-deep s (depth - j) (token symbol p m) (token at-sign q 1) refl sign refl (omega arith)) ∙ awaited-refused s (ltb 0 j) tooDeep p)
 
-        module _ (c′ : Answer) (e′ : c′ ≡ nextToken s q) where
-          pub bind-spans : Spans s a c′ (m + headLen)
-          bind-spans =
-              subst⁻¹ (Spans s a c′) (its-length bindingKind) (subst⁻¹ (λ (x : Answer). Spans s x c′ (length (record-of bindingKind its))) e
-              (subst⁻¹ (λ (x : Answer). Spans s (ok (is (token symbol p m))) x (length (record-of bindingKind its))) e′
-              (name-spans s (token symbol p m) q its-lexes sign)))
+        pub bind-spans : Spans s a (nextToken s (q + 1)) (m + headLen)
+        bind-spans =
+            subst⁻¹ (Spans s a (nextToken s (q + 1))) (its-length bindingKind)
+            (subst⁻¹ (λ (x : Answer). Spans s x (nextToken s (q + 1)) (length (record-of bindingKind its))) e
+            (name-spans s (token symbol p m) (token at-sign q 1) its-lexes sign))
 
-          pub bind-turn : (b′ : List ℕ) → (j ≡ depth → ⊥) → FilledFrom size (record-of bindingKind (take (p + m - p) (drop p s))) b b′ → length b′ ≡ length b
-              → Going s depth w a₀ b₀ c′ (j + 1) n (size + (m + headLen)) b′
-          bind-turn b′ nd f l =
-              let F : Answer → Result Many = readItems (readTree s depth) (length s - n) in
-              let y : Result One = readTree s (depth - j - 1) (nextToken s q) in
-              let r : here ≡ andThen y (bound s its) =
-              ap (awaited s (ltb 0 j)) (ap (readTree s (depth - j)) e ∙ read-bind s (depth - j) (token symbol p m) q refl sign (λ z. nd (omega (arith, g .deep))))
-              ∙ awaited-bound s (ltb 0 j) its y in
-              let h : Left n (g .o ++ record-of bindingKind its) w F (andThen y (due s)) = left-bound n (g .o) w F s its y (subst (Left n (g .o) w F) r (g .left)) in
-              let t : ltb 0 (j + 1) ≡ true = lt-ltb 0 (j + 1) (omega arith) in
-              let dj : depth - (j + 1) ≡ depth - j - 1 = omega arith in
-              record {
-                lexes = bind-spans .lexes;
-                on = omega (arith, bind-spans .on, g .on);
-                deep = omega (arith, g .deep, nd);
-                weighs = omega (arith, bind-spans .size, g .weighs);
-                o = g .o ++ record-of bindingKind its;
-                puts = its-record bindingKind b′ f;
-                same = l ∙ g .same;
-                left = rw (t, dj, e′) h;
-              }
+        pub bind-turn : (b′ : List ℕ) → (j ≡ depth → ⊥) → FilledFrom size (record-of bindingKind (take (p + m - p) (drop p s))) b b′ → length b′ ≡ length b
+            → Going s depth w a₀ b₀ (nextToken s (q + 1)) (j + 1) n (size + (m + headLen)) b′
+        bind-turn b′ nd f l =
+            let F : Answer → Result Many = readItems (readTree s depth) (length s - n) in
+            let y : Result One = readTree s (depth - j - 1) (nextToken s (q + 1)) in
+            let r : here ≡ andThen y (bound s its) =
+            ap (awaited s (ltb 0 j)) (ap (readTree s (depth - j)) e
+            ∙ read-bind s (depth - j) (token symbol p m) (token at-sign q 1) refl sign refl (λ z. nd (omega (arith, g .deep)))) ∙ awaited-bound s (ltb 0 j) its y in
+            let h : Left n (g .o ++ record-of bindingKind its) w F (andThen y (due s)) = left-bound n (g .o) w F s its y (subst (Left n (g .o) w F) r (g .left)) in
+            let t : ltb 0 (j + 1) ≡ true = lt-ltb 0 (j + 1) (omega arith) in
+            let dj : depth - (j + 1) ≡ depth - j - 1 = omega arith in
+            record {
+              lexes = bind-spans .lexes;
+              on = omega (arith, bind-spans .on, g .on);
+              deep = omega (arith, g .deep, nd);
+              weighs = omega (arith, bind-spans .size, g .weighs);
+              o = g .o ++ record-of bindingKind its;
+              puts = its-record bindingKind b′ f;
+              same = l ∙ g .same;
+              left = rw (t, dj) h;
+            }
 
   -- what the routine for a tree is called on, and what it told
   module _ (lo : LeftOver (ltb 0 j) a) where
@@ -292,38 +299,42 @@ module _ {s : List ℕ} {depth : ℕ} {w : Result Many} {a₀ : Answer} {b₀ : 
             absurd (let y : _≡_ {A = ℕ} 0 1 = cc in omega arith)
         by false (ok ended) h k = let z = subst (LeftOver false) h k in absurd (let y : _≡_ {A = ℕ} 0 1 = cc in omega arith)
 
-    module _ (t : Bool) (m p i : ℕ) (b₁ ys : List ℕ) (h : TreeTold s (andThen (readTree s (depth - j) a) (due s)) t m p i b₁ ys) where
+    module _ (a′ : Answer) (ea : a′ ≡ a) (t : Bool) (m p i : ℕ) (b₁ ys : List ℕ) (h : TreeTold s (andThen (readTree s (depth - j) a′) (due s)) t m p i b₁ ys) where
+      told-as : (t′ : Bool) → t ≡ t′ → TreeTold s (andThen (readTree s (depth - j) a) (due s)) t′ m p i b₁ ys
+      told-as t′ e =
+          subst (λ (t : Bool). TreeTold s (andThen (readTree s (depth - j) a) (due s)) t m p i b₁ ys) e
+          (subst (λ (x : Answer). TreeTold s (andThen (readTree s (depth - j) x) (due s)) t m p i b₁ ys) ea h)
+
       pub no-tree-turn : t ≡ true → w ≡ refused m p
-      no-tree-turn e = refused-turn m p (over-due ∙ subst (λ (t : Bool). TreeTold s (andThen (readTree s (depth - j) a) (due s)) t m p i b₁ ys) e h)
+      no-tree-turn e = refused-turn m p (over-due ∙ told-as true e)
 
-      module _ (e : t ≡ false) (c : Answer) (ec : c ≡ nextToken s p) where
-        told : (x : Tree) × (andThen (readTree s (depth - j) a) (due s) ≡ ok (got x c)) × (i ≡ length (records x)) × Filled (records x) b₁ ys
-        told =
-            let k = subst (λ (t : Bool). TreeTold s (andThen (readTree s (depth - j) a) (due s)) t m p i b₁ ys) e h in
-            (k .0, k .1 ∙ ap (λ (y : Answer). ok (got (k .0) y)) (sym ec), k .2, k .3)
+      module _ (e : t ≡ false) where
+        told : (x : Tree) × (andThen (readTree s (depth - j) a) (due s) ≡ ok (got x (nextToken s p))) × (i ≡ length (records x)) × Filled (records x) b₁ ys
+        told = told-as false e
 
-        told-is : readTree s (depth - j) a ≡ ok (got (told .0) c)
+        told-is : readTree s (depth - j) a ≡ ok (got (told .0) (nextToken s p))
         told-is = by (readTree s (depth - j) a) (told .1)
           where
-            by : (y : Result One) → andThen y (due s) ≡ ok (got (told .0) c) → y ≡ ok (got (told .0) c)
+            by : (y : Result One) → andThen y (due s) ≡ ok (got (told .0) (nextToken s p)) → y ≡ ok (got (told .0) (nextToken s p))
             by (ok (got z d)) e = e
             by (ok (closed t)) e = absurd (let z : _≡_ {A = ℕ} 0 1 = cc in omega arith)
             by (ok ended) e = absurd (let z : _≡_ {A = ℕ} 0 1 = cc in omega arith)
             by (refused m p) e = absurd (let z : _≡_ {A = ℕ} 0 1 = cc in omega arith)
 
-        pub told-spans : Spans s a c i
-        told-spans = subst⁻¹ (Spans s a c) (told .2) (got-spans s (depth - j) a c (told .0) (g .lexes) told-is)
+        pub told-spans : Spans s a (nextToken s p) i
+        told-spans = subst⁻¹ (Spans s a (nextToken s p)) (told .2) (got-spans s (depth - j) a (nextToken s p) (told .0) (g .lexes) told-is)
 
         pub told-turn : (r : ℕ) → b₁ ≡ take (length b - r) (drop r b) → (size ≤ length b → r ≡ size) → length (putMid r (length b - r) b ys) ≡ length b
-            → Going s depth w a₀ b₀ c 0 (n + 1) (size + i) (putMid r (length b - r) b ys)
+            → Going s depth w a₀ b₀ (nextToken s p) 0 (n + 1) (size + i) (putMid r (length b - r) b ys)
         told-turn r eb er l =
-            tree-turn (told .0) c i (putMid r (length b - r) b ys) (over-due ∙ told .1) (got-spans s (depth - j) a c (told .0) (g .lexes) told-is) (told .2)
+            tree-turn (told .0) (nextToken s p) i (putMid r (length b - r) b ys) (over-due ∙ told .1)
+            (got-spans s (depth - j) a (nextToken s p) (told .0) (g .lexes) told-is) (told .2)
             (puts-both (g .o) (records (told .0)) b₀ b ys size i r (g .puts) er (told .2, subst (λ (x : List ℕ). Filled (records (told .0)) x ys) eb (told .3))) (l ∙ g .same)
 
 -- ---- at the terms that the code has
 
-pub seen-as : (a : Answer) (d : Bool) (x y : Look) → Seen a d x → x ≡ y → Seen a d y
-seen-as a d x y h e = subst (Seen a d) e h
+pub seen-as : (a b : Answer) (d : Bool) (x y : Look) → Seen a d x → a ≡ b → x ≡ y → Seen b d y
+seen-as a b d x y h e f = subst (λ (a : Answer). Seen a d y) e (subst (Seen a d) f h)
 
 pub left-true : (d : Bool) (a : Answer) → LeftOver d a → LeftOver true a
 left-true d (ok end) h = refl

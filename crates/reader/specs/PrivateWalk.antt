@@ -8,16 +8,14 @@ use Rattle.refusals.specs.Numbers.{noTree}
 use Rattle.refusals.specs.Result.{Result, ok, refused}
 use Rattle.lists.specs.Over.{over}
 use Rattle.lists.specs.Rooms.{Filled}
-use Rattle.lexer.specs.Tokens.{Kind, lparen, rparen, at-sign, symbol, int, Token, token, past, Answer, end, is}
+use Rattle.lexer.specs.Tokens.{Kind, lparen, rparen, at-sign, symbol, int, Token, token, Answer, end, is}
 use Rattle.lexer.specs.Lexing.{nextToken}
 use Rattle.table.specs.Trees.{Tree, Trees, count, records, recordsOf}
-use Rattle.reader.specs.Grammar.{One, got, closed, ended, Many, upTo, toEnd, ifAt}
+use Rattle.reader.specs.Grammar.{One, got, closed, ended, Many, upTo, toEnd}
 use Rattle.reader.specs.declared.parts.OneRead.{OneRead}
 use Rattle.reader.specs.declared.parts.ManyRead.{ManyRead}
 use Rattle.reader.specs.declared.parts.Stop.{Stop}
 use Rattle.reader.specs.declared.parts.Stop.the-variants as stop
-use Rattle.reader.specs.declared.parts.Sign.{Sign}
-use Rattle.reader.specs.declared.parts.Sign.the-variants as sign
 use Rattle.reader.specs.declared.parts.Look.{Look}
 use Rattle.reader.specs.declared.parts.Look.the-variants as look
 
@@ -53,17 +51,6 @@ ItemsTold y stop.Refusal m p k n b b′ = y ≡ refused m p
 
 abbrev pub ItemsRead : Result Many → ManyRead → List ℕ → List ℕ → Type 0
 ItemsRead y r b b′ = ItemsTold y (r .stop) (r .number) (r .place) (r .n) (r .size) b b′
-
--- the place past an `@`; the place past a token, or 0
-abbrev pub signOf : Answer → Sign
-signOf (ok end) = sign.Other
-signOf (refused n a) = sign.Other
-signOf (ok (is t)) = ifAt (t .kind) (sign.At (past t)) sign.Other
-
-abbrev pub pastOf : Answer → ℕ
-pastOf (ok end) = 0
-pastOf (refused n a) = 0
-pastOf (ok (is t)) = past t
 
 -- what a loop over trees leaves to the routine for a tree: no symbol, and a `)` or the end only where a tree is due
 abbrev pub LeftKind : Bool → Kind → Type 0

@@ -7,7 +7,6 @@ use lexer::Token;
 use parts::Look;
 use parts::ManyRead;
 use parts::OneRead;
-use parts::Sign;
 use parts::Stop;
 use refusals::Refusal;
 ghost use mathlib.Core.Path.{_≡_};
@@ -64,16 +63,18 @@ fn read_tree(src: &[u8], tok: Lexed, depth: usize, buf: &mut [u8]) -> OneRead
     }
 }
 
-// Reads the trees in a row from `at` on. A symbol takes no call of its own; nor does a binding's name, for its tree follows, one level further in.
+// Reads the trees in a row from `at` on. A symbol takes no call of its own; nor does a binding's name, for its tree follows, one level further in. The lexer is
+// called at one place, so that the compiler merges it into the loop: behind a name the next byte alone tells if an `@` follows.
 fn read_items(src: &[u8], at: usize, depth: usize, buf: &mut [u8]) -> ManyRead
     ensures { λ r. ⌜ ItemsRead (readItems (readTree (now (src .entry)) depth) (suc (length (now (src .entry)))) (nextToken (now (src .entry)) at)) r (now (buf .entry)) (now (buf .exit)) ⌝ }
 {
-    let mut tok = lexer::next_token(src, at);
+    let mut at = at;
     // The bindings whose tree is due.
     let mut due = 0;
     let mut n = 0;
     let mut size = 0;
     loop {
+        let tok = lexer::next_token(src, at);
         let seen = parts::glance(tok, 0 < due);
         match seen {
             Look::Close(place) => {
@@ -84,24 +85,20 @@ fn read_items(src: &[u8], at: usize, depth: usize, buf: &mut [u8]) -> ManyRead
             }
             Look::Name(start, k) => {
                 let end = start + k;
-                tok = lexer::next_token(src, end);
-                let sign = parts::sign_of(tok);
-                match sign {
-                    Sign::Other => {
-                        put::name(table::SYMBOL, src, start, end, size, buf);
-                        due = 0;
-                        n += 1;
-                        size += k + records::HEAD;
+                at = lexer::gap_end(src, end);
+                if classes::is_at_sign(lists::byte_at(src, at)) {
+                    if due == depth {
+                        return parts::no_items(refusals::TOO_DEEP, start);
                     }
-                    Sign::At(past) => {
-                        if due == depth {
-                            return parts::no_items(refusals::TOO_DEEP, start);
-                        }
-                        put::name(table::BINDING, src, start, end, size, buf);
-                        tok = lexer::next_token(src, past);
-                        due += 1;
-                        size += k + records::HEAD;
-                    }
+                    put::name(table::BINDING, src, start, end, size, buf);
+                    at += 1;
+                    due += 1;
+                    size += k + records::HEAD;
+                } else {
+                    put::name(table::SYMBOL, src, start, end, size, buf);
+                    due = 0;
+                    n += 1;
+                    size += k + records::HEAD;
                 }
             }
             Look::Other => {
@@ -110,7 +107,7 @@ fn read_items(src: &[u8], at: usize, depth: usize, buf: &mut [u8]) -> ManyRead
                 if one.refused {
                     return parts::no_items(one.number, one.place);
                 }
-                tok = lexer::next_token(src, one.place);
+                at = one.place;
                 due = 0;
                 n += 1;
                 size += one.size;

@@ -3,10 +3,8 @@ use lexer::Lexed;
 use lexer::Token;
 ghost use mathlib.Core.Path.{_≡_};
 ghost use mathlib.Core.Bool.{true, false};
-ghost use Prim.Native.Nat.{_≤_};
-ghost use Rattle.refusals.specs.Numbers.{sourceLimit};
 ghost use Rattle.lexer.specs.Tokens.{answerOf};
-ghost use Rattle.reader.specs.PrivateWalk.{signOf, pastOf, Seen};
+ghost use Rattle.reader.specs.PrivateWalk.{Seen};
 ghost use Rattle.reader.specs.declared.parts.Stop.the-variants as stop;
 
 // A tree, or a refusal.
@@ -34,12 +32,6 @@ pub struct ManyRead {
     // How many trees, and the bytes of their records.
     pub n: usize,
     pub size: usize,
-}
-
-// The place past an `@`.
-pub enum Sign {
-    At(usize),
-    Other,
 }
 
 pub enum Look {
@@ -94,23 +86,6 @@ pub fn no_items(number: u8, place: usize) -> ManyRead
         place,
         n: 0,
         size: 0,
-    }
-}
-
-pub fn sign_of(tok: Lexed) -> Sign
-    requires { ⌜ pastOf (answerOf tok) ≤ sourceLimit ⌝ }
-    ensures { λ r. ⌜ r ≡ signOf (answerOf tok) ⌝ }
-{
-    match tok {
-        Lexed::End => Sign::Other,
-        Lexed::Refused(_) => Sign::Other,
-        Lexed::Token(t, start) => match t {
-            Token::LParen => Sign::Other,
-            Token::RParen => Sign::Other,
-            Token::At => Sign::At(start + 1),
-            Token::Symbol(_) => Sign::Other,
-            Token::Int(_, _) => Sign::Other,
-        },
     }
 }
 

@@ -89,10 +89,15 @@ pub fn is_symbol(s: &[u8]) -> bool
     if classes::is_sym_first_char(s[0]) {
         let mut i = 1;
         while i < s.len() {
-            if classes::is_sym_other_char(s[i]) {
+            // Most are high, and the rest need not be asked then.
+            if classes::is_high(s[i]) {
                 i += 1;
             } else {
-                return false;
+                if classes::is_sym_other_char(s[i]) {
+                    i += 1;
+                } else {
+                    return false;
+                }
             }
         }
         return true;

@@ -1,30 +1,31 @@
--- `classes::is_sym_first_char`: the tests and the class agree on every byte, which antt computes.
+-- `classes::is_sym_first_char`: the comparisons and the class agree on every byte.
 use Prim.Native.Nat.{ℕ}
-use mathlib.Core.Path.{refl, sym, ap, _∙_}
-use mathlib.Core.Bool.{true, cond, not, _||_, _&&_}
-use lib.Dec.{eqb, leb, ltb}
+use mathlib.Core.Path.{sym, ap, _∙_}
+use mathlib.Core.Bool.{Bool, true, cond, not, _||_, _&&_}
+use lib.Dec.{eqb, leb}
 use borrow.Author.Needs.{needs}
-use borrow.Author.Tests.{lt-ltb}
-use Rattle.lists.proofs.Each.{agree}
-use Rattle.classes.specs.Classes.{classOf, symbolFirst, symbolOther}
+use borrow.Author.Tests.{lt-ltb, le-ltb}
+use Rattle.classes.specs.Classes.{classOf, symbolOther}
+use Rattle.classes.proofs.Rules.{rules-of}
 use Rattle.classes.proofs.is_sym_first_char.Statement.{statement}
 use Rattle.classes.proofs.is_sym_first_char.Tie as tie
 
+-- a byte that is not above `@`
+abbrev low : ℕ → Bool
+low b = symbolOther (classOf b) && not (eqb b 45 || (leb 48 b && leb b 57))
+
 returns : tie.Need-returns
-unfolding classOf
 returns c =
     let b : ℕ = c .before .args .b in
-    sym (ap (λ t. cond t true (symbolFirst (classOf b))) (lt-ltb 64 b (c .if1 .taken)))
-    ∙ agree (λ b. cond (ltb 64 b) true (symbolFirst (classOf b))) (λ b. symbolFirst (classOf b)) refl b (search needs)
+    sym (ap (λ t. cond t true (low b)) (lt-ltb 64 b (c .if1 .taken))) ∙ rules-of b (search needs) .begins-is
 
 is-sym-other-char-requires : tie.Need-is-sym-other-char-requires
 is-sym-other-char-requires c κs = search needs
 
 returns-2 : tie.Need-returns-2
-unfolding classOf
 returns-2 c =
-    simp (c .is-sym-other-char .ensures)
-    (agree (λ b. symbolOther (classOf b) && not (eqb b 45 || (leb 48 b && leb b 57))) (λ b. symbolFirst (classOf b)) refl (c .before .before .args .b) (search needs))
+    let b : ℕ = c .before .before .args .b in
+    rw (c .is-sym-other-char .ensures) (sym (ap (λ t. cond t true (low b)) (le-ltb 64 b (c .before .if1 .left))) ∙ rules-of b (search needs) .begins-is)
 
 pub is-sym-first-char-spec : {M : Type 1} → statement M
 is-sym-first-char-spec = tie.close (tie.spec returns is-sym-other-char-requires returns-2)

@@ -1,4 +1,4 @@
--- `lexer::block_end`: at each place, lexing inside the comments open there is lexing behind the first opener.
+-- `lexer::block_end`: at each place, skipping inside the comments open there is skipping behind the first opener.
 use Prim.Native.Nat.{ℕ, _+_, _-_, _≤_, _<_}
 use mathlib.Core.Path.{_≡_, refl, sym, _∙_}
 use mathlib.Core.List.{List}
@@ -8,7 +8,8 @@ use denote.Ref.{now}
 use borrow.Author.Needs.{needs}
 use borrow.Author.Tests.{le-leb, lt-leb}
 use Rattle.classes.specs.Classes.{classOf}
-use Rattle.lexer.specs.Lexing.{InBlock, lexIn, leave}
+use Rattle.lexer.specs.Lexing.{InBlock, leave}
+use Rattle.lexer.specs.Gaps.{skipIn}
 use Rattle.lexer.specs.PrivateBlocks.{markOf}
 use Rattle.lexer.proofs.Comments.{two-open, two-close, block-past, block-open, block-close, block-go}
 use Rattle.lexer.proofs.block_end.Statement.{statement}
@@ -16,7 +17,7 @@ use Rattle.lexer.proofs.block_end.Tie as tie
 
 abbrev Inv-loop : tie.InvT-loop
 Inv-loop src start i₀ depth₀ i depth =
-    (1 ≤ depth) × (depth ≤ i) × (start + 2 ≤ i) × (lexIn 0 (InBlock depth start) (drop i src) i ≡ lexIn 0 (InBlock 1 start) (drop (start + 2) src) (start + 2))
+    (1 ≤ depth) × (depth ≤ i) × (start + 2 ≤ i) × (skipIn 0 (InBlock depth start) (drop i src) i ≡ skipIn 0 (InBlock 1 start) (drop (start + 2) src) (start + 2))
 
 abbrev μ-loop : tie.MeasureT-loop
 μ-loop src start i₀ depth₀ i depth = length src - i
@@ -40,7 +41,7 @@ told c = cc
 lt : (c : tie.After-mark-of Inv-loop μ-loop) → I c < length (S c)
 lt c = c .before .before .before .loop-test .taken
 
-kept : (c : tie.After-mark-of Inv-loop μ-loop) → lexIn 0 (InBlock (D c) (P c)) (drop (I c) (S c)) (I c) ≡ lexIn 0 (InBlock 1 (P c)) (drop (P c + 2) (S c)) (P c + 2)
+kept : (c : tie.After-mark-of Inv-loop μ-loop) → skipIn 0 (InBlock (D c) (P c)) (drop (I c) (S c)) (I c) ≡ skipIn 0 (InBlock 1 (P c)) (drop (P c + 2) (S c)) (P c + 2)
 kept c = c .before .before .before .before .loop .inv .3
 
 -- the last comment is left, or one of several

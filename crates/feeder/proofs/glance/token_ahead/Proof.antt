@@ -37,47 +37,64 @@ loop-again c =
     let a = t .before .before .args in
     (omega arith, blank-on (now (a .piece)) (t .loop .j) (a .stop) (omega arith) (omega arith) (t .loop .inv .1) (sym (c .before .is-blank .ensures) ∙ c .if1 .taken))
 
+is-high-requires : tie.Need-is-high-requires Inv-loop μ-loop
+is-high-requires c κs = tt
+
 symbol-to-requires : tie.Need-symbol-to-requires Inv-loop μ-loop
 symbol-to-requires c κs = (omega arith, omega arith)
 
 returns : tie.Need-returns Inv-loop μ-loop
 returns c =
-    let k = c .before .before .before .before in
+    let k = c .before .before .before .before .before in
     let t = k .before .before in
     let a = t .before .before .args in
     symbol-shown (now (a .piece)) (t .loop .j) (a .stop) (omega arith) (omega arith) (t .loop .inv .1)
-    ((k .shared-slice-known2 .given (t .loop .j)) .fits) (c .before .if2 .taken) (c .symbol-to .result) (c .symbol-to .ensures)
+    ((k .shared-slice-known2 .given (t .loop .j)) .fits) (sym (c .before .before .is-high .ensures) ∙ c .before .if2 .taken) (c .symbol-to .result) (c .symbol-to .ensures)
 
-add-t12 : tie.Need-add-t12 Inv-loop μ-loop
-add-t12 c = omega arith
+is-rparen-requires : tie.Need-is-rparen-requires Inv-loop μ-loop
+is-rparen-requires c κs = tt
+
+is-at-sign-requires : tie.Need-is-at-sign-requires Inv-loop μ-loop
+is-at-sign-requires c κs = tt
+
+add-t13 : tie.Need-add-t13 Inv-loop μ-loop
+add-t13 c = omega arith
 
 returns-2 : tie.Need-returns-2 Inv-loop μ-loop
 returns-2 c =
-    let t = c .before .before .before .before .before .before in
+    let t = c .before .before .before .before .before .before .before .before .before in
     let a = t .before .before .args in
-    sign-shown (now (a .piece)) (t .loop .j) (a .stop) (omega arith) (omega arith) (t .loop .inv .1) (c .if3 .taken)
+    sign-shown (now (a .piece)) (t .loop .j) (a .stop) (omega arith) (omega arith) (t .loop .inv .1)
+    (rw (← c .before .before .is-rparen .ensures, ← c .before .is-at-sign .ensures) (c .if3 .taken))
+
+is-lparen-requires : tie.Need-is-lparen-requires Inv-loop μ-loop
+is-lparen-requires c κs = tt
 
 add-if5 : tie.Need-add-if5 Inv-loop μ-loop
 add-if5 c = omega arith
 
-add-if6 : tie.Need-add-if6 Inv-loop μ-loop
-add-if6 c = omega arith
+add-is-semicolon : tie.Need-add-is-semicolon Inv-loop μ-loop
+add-is-semicolon c = omega arith
 
-shared-slice-read-if6 : tie.Need-shared-slice-read-if6 Inv-loop μ-loop
-shared-slice-read-if6 c = omega arith
+shared-slice-read-is-semicolon : tie.Need-shared-slice-read-is-semicolon Inv-loop μ-loop
+shared-slice-read-is-semicolon c = omega arith
+
+is-semicolon-requires : tie.Need-is-semicolon-requires Inv-loop μ-loop
+is-semicolon-requires c κs = tt
 
 returns-3 : tie.Need-returns-3 Inv-loop μ-loop
 returns-3 c = none-shown _ _
 
-add-t15 : tie.Need-add-t15 Inv-loop μ-loop
-add-t15 c = omega arith
+add-t18 : tie.Need-add-t18 Inv-loop μ-loop
+add-t18 c = omega arith
 
 returns-4 : tie.Need-returns-4 Inv-loop μ-loop
 returns-4 c =
-    let t = c .before .before .before .before .before .before .before .before .before .before in
+    let o = c .before .before .before .before in
+    let t = o .before .before .before .before .before .before .before .before .before .before .before in
     let a = t .before .before .args in
     paren-shown (now (a .piece)) (t .loop .j) (a .stop) (omega arith) (omega arith) (t .loop .inv .1)
-    (c .before .before .before .if4 .taken) (omega (arith, c .before .before .if5 .taken)) ((c .before .shared-slice-known3 .given (t .loop .j + 1)) .fits) (λ e. omega (arith, c .if6 .left))
+    (sym (o .before .is-lparen .ensures) ∙ o .if4 .taken) (omega (arith, c .before .before .before .if5 .taken)) (sym (c .before .is-semicolon .ensures) ∙ c .if6 .left)
 
 returns-5 : tie.Need-returns-5 Inv-loop μ-loop
 returns-5 c = none-shown _ _
@@ -100,15 +117,20 @@ token-ahead-spec =
     add-j
     loop-less
     loop-again
+    is-high-requires
     symbol-to-requires
     returns
-    add-t12
+    is-rparen-requires
+    is-at-sign-requires
+    add-t13
     returns-2
+    is-lparen-requires
     add-if5
-    add-if6
-    shared-slice-read-if6
+    add-is-semicolon
+    shared-slice-read-is-semicolon
+    is-semicolon-requires
     returns-3
-    add-t15
+    add-t18
     returns-4
     returns-5
     returns-6

@@ -23,25 +23,25 @@ abbrev μ-loop : tie.MeasureT-loop
 μ-loop piece place i stop j₀ j = stop - j
 
 -- the piece, the place of its first byte, and the byte's place in it
-abbrev Q : tie.After-class-of Inv-loop μ-loop → List ℕ
+abbrev Q : tie.After-class-in-loop Inv-loop μ-loop → List ℕ
 Q u = now (u .before .before .before .before .before .args .piece)
 
-abbrev P : tie.After-class-of Inv-loop μ-loop → ℕ
+abbrev P : tie.After-class-in-loop Inv-loop μ-loop → ℕ
 P u = u .before .before .before .before .before .args .place
 
-abbrev J : tie.After-class-of Inv-loop μ-loop → ℕ
+abbrev J : tie.After-class-in-loop Inv-loop μ-loop → ℕ
 J u = u .before .before .before .loop .j
 
-told : (u : tie.After-class-of Inv-loop μ-loop) → classOf (getD (Q u) (J u) 0) ≡ u .class-of .result
-told u = sym (u .class-of .ensures)
+told : (u : tie.After-class-in-loop Inv-loop μ-loop) → classOf (getD (Q u) (J u) 0) ≡ u .class-in-loop .result
+told u = sym (u .class-in-loop .ensures)
 
-lt : (u : tie.After-class-of Inv-loop μ-loop) → J u < length (Q u)
+lt : (u : tie.After-class-in-loop Inv-loop μ-loop) → J u < length (Q u)
 lt u = omega arith
 
-below : (u : tie.After-class-of Inv-loop μ-loop) → P u + J u < sourceLimit
+below : (u : tie.After-class-in-loop Inv-loop μ-loop) → P u + J u < sourceLimit
 below u = omega arith
 
-kept : (u : tie.After-class-of Inv-loop μ-loop) → call (Q u) (P u) (J u) Blank ≡ call (Q u) (P u) (u .before .before .before .before .before .args .i) Blank
+kept : (u : tie.After-class-in-loop Inv-loop μ-loop) → call (Q u) (P u) (J u) Blank ≡ call (Q u) (P u) (u .before .before .before .before .before .args .i) Blank
 kept u = u .before .before .before .loop .inv .2
 
 loop-holds : tie.Need-loop-holds Inv-loop μ-loop
@@ -50,8 +50,8 @@ loop-holds c = (omega arith, omega arith, refl)
 shared-slice-read-b : tie.Need-shared-slice-read-b Inv-loop μ-loop
 shared-slice-read-b c = omega arith
 
-class-of-requires : tie.Need-class-of-requires Inv-loop μ-loop
-class-of-requires c κs = tt
+class-in-loop-requires : tie.Need-class-in-loop-requires Inv-loop μ-loop
+class-in-loop-requires c κs = tt
 
 enum-told : tie.Need-enum-told Inv-loop μ-loop
 enum-told c = search needs
@@ -173,7 +173,7 @@ in-blank-spec =
     μ-loop
     loop-holds
     shared-slice-read-b
-    class-of-requires
+    class-in-loop-requires
     enum-told
     add-j
     loop-less

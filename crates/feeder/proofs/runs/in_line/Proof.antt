@@ -1,69 +1,62 @@
--- `feeder::runs::in_line`: at each place, what is left of the call is what was left at the start.
-use Prim.Native.Nat.{_-_, _≤_}
-use mathlib.Core.Path.{_≡_, refl, sym, _∙_}
+-- `feeder::runs::in_line`: over the bytes of the line, what is left of the call is what was left at the start.
+use Prim.Native.Nat.{ℕ, _+_, _≤_, _<_}
+use mathlib.Core.Path.{_≡_, refl, sym, ap, _∙_}
+use mathlib.Core.Bool.{Bool, true, false, not}
 use native.Mathlib.Omega.{arith}
+use borrow.Author.Needs.{needs}
 use denote.Ref.{now}
-use Rattle.feeder.specs.PrivateRuns.{call}
+use lib.ListN.{getD}
+use lib.Seq.{length-take-le}
+use Rattle.classes.specs.Classes.{classOf, lineEnd}
+use Rattle.classes.proofs.Pieces.{run-within}
 use Rattle.feeder.specs.Machine.{Blank, Line, turn}
+use Rattle.feeder.specs.PrivateRuns.{call}
 use Rattle.feeder.proofs.Calls.{call-go}
 use Rattle.feeder.proofs.runs.in_line.Statement.{statement}
 use Rattle.feeder.proofs.runs.in_line.Tie as tie
 
-abbrev Inv-loop : tie.InvT-loop
-Inv-loop piece place i stop j₀ j = (i ≤ j) × (j ≤ stop) × (call piece place j Line ≡ call piece place i Line)
+-- what the run asks of a byte
+abbrev inLine : ℕ → Bool
+inLine b = not (lineEnd (classOf b))
 
-abbrev μ-loop : tie.MeasureT-loop
-μ-loop piece place i stop j₀ j = stop - j
+-- the run asks the other way round than the turn
+turned : (t x : Bool) → not t ≡ x → t ≡ not x
+turned true x e = ap not e
+turned false x e = ap not e
 
-loop-holds : tie.Need-loop-holds Inv-loop μ-loop
-loop-holds c = (omega arith, omega arith, refl)
+slice-aggregate-line-end : tie.Need-slice-aggregate-line-end
+slice-aggregate-line-end c = sym (length-take-le _ _ (omega arith))
 
-shared-slice-read-is-line-end : tie.Need-shared-slice-read-is-line-end Inv-loop μ-loop
-shared-slice-read-is-line-end c = omega arith
+line-end-requires : tie.Need-line-end-requires
+line-end-requires c κs = search needs
 
-is-line-end-requires : tie.Need-is-line-end-requires Inv-loop μ-loop
-is-line-end-requires c κs = tt
+add-t10 : tie.Need-add-t10
+add-t10 c = search needs
 
-add-t11 : tie.Need-add-t11 Inv-loop μ-loop
-add-t11 c = omega arith
+-- where the line's bytes end
+run : (u : tie.After-line-end) → let a = u .before .before .before .args in let q = now (a .piece) in let r = u .line-end .result in
+    (r ≤ a .stop) × (r < a .stop → inLine (getD q r 0) ≡ false) × (call q (a .place) r Line ≡ call q (a .place) (a .i) Line)
+unfolding turn
+run u =
+    let a = u .before .before .before .args in
+    let q = now (a .piece) in
+    let On : ℕ → Type 0 = λ j. call q (a .place) j Line ≡ call q (a .place) (a .i) Line in
+    let go : (j : ℕ) → a .i ≤ j → j < a .stop → inLine (getD q j 0) ≡ true → On j → On (j + 1) =
+    λ j h l e on. sym (call-go q (a .place) j Line (omega arith) (omega arith) Line (rw (turned (lineEnd (classOf (getD q j 0))) true e) refl)) ∙ on in
+    run-within inLine q (a .stop) (omega arith) On (a .i) (u .line-end .result) (omega arith) (u .line-end .ensures) go refl
 
-returns : tie.Need-returns Inv-loop μ-loop
+returns : tie.Need-returns
 unfolding turn
 returns c =
-    let t = c .before .before .before .before in
-    let a = t .before .before .args in
-    let f = sym (c .before .is-line-end .ensures) ∙ c .if1 .taken in
-    ((omega arith, omega arith), sym (call-go (now (a .piece)) (a .place) (t .loop .j) Line (omega arith) (omega arith) Blank (rw f refl)) ∙ t .loop .inv .2)
+    let a = c .before .before .before .before .args in
+    let q = now (a .piece) in
+    let j = c .before .line-end .result in
+    let r = run (c .before) in
+    let f = turned (lineEnd (classOf (getD q j 0))) false (r .1 (c .if1 .taken)) in
+    ((omega arith, omega arith), sym (call-go q (a .place) j Line (omega arith) (omega arith) Blank (rw f refl)) ∙ r .2)
 
-add-j : tie.Need-add-j Inv-loop μ-loop
-add-j c = omega arith
-
-loop-less : tie.Need-loop-less Inv-loop μ-loop
-loop-less c = omega arith
-
-loop-again : tie.Need-loop-again Inv-loop μ-loop
-unfolding turn
-loop-again c =
-    let t = c .before .before .before .before in
-    let a = t .before .before .args in
-    let f = sym (c .before .is-line-end .ensures) ∙ c .if1 .left in
-    (omega arith, omega arith, sym (call-go (now (a .piece)) (a .place) (t .loop .j) Line (omega arith) (omega arith) Line (rw f refl)) ∙ t .loop .inv .2)
-
-returns-2 : tie.Need-returns-2 Inv-loop μ-loop
-returns-2 c = ((omega arith, omega arith), c .before .loop .inv .2)
+returns-2 : tie.Need-returns-2
+returns-2 c = let r = run (c .before) in ((omega arith, omega arith), r .2)
 
 pub in-line-spec : {M : Type 1} → statement M
-in-line-spec =
-    tie.close
-    (tie.spec
-    Inv-loop
-    μ-loop
-    loop-holds
-    shared-slice-read-is-line-end
-    is-line-end-requires
-    add-t11
-    returns
-    add-j
-    loop-less
-    loop-again
-    returns-2)
+in-line-spec = tie.close (tie.spec slice-aggregate-line-end line-end-requires add-t10 returns returns-2)
