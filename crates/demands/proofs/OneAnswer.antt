@@ -46,7 +46,7 @@ use Rattle.demands.specs.OneAnswer.{SignedFits, TokenFits, LexedFits, An
 
 -- ---- the views tell results apart that the machine can hold
 
-refusal-same : (r s : Refusal) → r .number ≡ s .number → r .place ≡ s .place → r ≡ s
+pub refusal-same : (r s : Refusal) → r .number ≡ s .number → r .place ≡ s .place → r ≡ s
 refusal-same r s e f = at (r .number) (s .number) (r .place) (s .place) e f
   where
     at : (n m a b : ℕ) → n ≡ m → a ≡ b → _≡_ {A = Refusal} (record { number = n; place = a }) (record { number = m; place = b })

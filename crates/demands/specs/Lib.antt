@@ -5,7 +5,9 @@ pub mod PrintThenFeed
 pub mod LentPromises
 pub mod OneAnswer
 pub mod OneAnswerDoors
+pub mod OneAnswerSettings
 pub mod Worked
 pub mod WrongPrograms
 pub mod Theorems
 pub mod Promises
+pub mod PromisesSettings

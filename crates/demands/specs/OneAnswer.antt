@@ -139,7 +139,7 @@ OutFits o = AnswerFits (o .answer)
 abbrev pub FedFits : Fed → Type 0
 FedFits f = OutFits (f .out)
 
--- a field a public function; refusals has none, the doors for C are in OneAnswerDoors
+-- a field a public function; refusals has none, the doors for C are in OneAnswerDoors, settings in OneAnswerSettings
 pub record OneAnswer : Type 0 where
   pub lists·byte-at : One lists-byte-at.Post
   pub lists·less : One lists-less.Post

@@ -1,5 +1,5 @@
 -- What each public function promises, in the words of the definitions: its own contract (`Post`), as the prover reads it off the source, is this. What is refuted in
--- `Refuted`, `RefutedCalls` and `RefutedDoors` is refuted of these. The arguments are `a`, in their order, the result is `x`, and `s` is what is lent as it is at the end.
+-- `Refuted`, `RefutedCalls` and `RefutedDoors` is refuted of these; settings have `PromisesSettings`. The arguments are `a`, in their order, the result is `x`, and `s` is what is lent as it is at the end.
 use Prim.Native.Nat.{_+_, _*_, _-_, _≤_}
 use mathlib.Core.Path.{_≡_}
 use mathlib.Core.Bool.{false}

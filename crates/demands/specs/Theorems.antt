@@ -17,9 +17,11 @@ use Rattle.reader.specs.Promised.{ReadGood, ReadTokens, ReadAccepts}
 use Rattle.printer.specs.Looking.{LookedBound}
 use Rattle.windows.specs.AnyCall.{GivenWithin, NoRoom, EndStays, RefusedAtFirst, NeverRoom}
 use Rattle.windows.specs.Joined.{WindowsJoined, WindowsEnd, WindowsRefused, WindowsPrinted, PrintRefused}
+use Rattle.settings.specs.Kept.{GoodSound, GoodComplete, FaultPlaced as SettingsFaultPlaced, CopyGood, WrittenProject, WrittenHouse, OthersProject, OthersHouse, WidthWritten, WidthBehind, StyleWritten, StyleBehind, WriteSame, Skipped, WorkedFiles}
 use Rattle.tulbazhik_windows.specs.States.{ThroughWords}
 use Rattle.demands.specs.OneAnswer.{OneAnswer}
 use Rattle.demands.specs.OneAnswerDoors.{OneAnswerDoors}
+use Rattle.demands.specs.OneAnswerSettings.{OneAnswerSettings}
 use Rattle.demands.specs.Worked.{Worked}
 use Rattle.demands.specs.WrongPrograms.{WrongPrograms}
 use Rattle.demands.specs.Driver.{CutAnywhere}
@@ -31,6 +33,7 @@ pub record Theorems : Type 0 where
   -- Demand 1: every call ends with a defined answer. That it ends and what it answers is each function's contract; that the contract leaves nothing open:
   pub one-answer : OneAnswer
   pub one-answer-doors : OneAnswerDoors
+  pub one-answer-settings : OneAnswerSettings
   -- Demand 2: tokens and layout are defined by the rules, and reading and printing refuse exactly when document 01 says. Its worked cases, and the wrong programs:
   pub worked : Worked
   pub wrong-programs : WrongPrograms
@@ -63,6 +66,24 @@ pub record Theorems : Type 0 where
   pub end-stays : EndStays
   pub refused-at-first : RefusedAtFirst
   pub never-room : NeverRoom
+  -- settings: what is read of a file is a good file, and every good file is read; a fault is told at its place
+  pub good-sound : GoodSound
+  pub good-complete : GoodComplete
+  pub settings-fault-placed : SettingsFaultPlaced
+  -- a copy is good; what was written is looked up, and every other setting is what it was, whichever of the two files was written; what is there already makes the same bytes
+  pub copy-good : CopyGood
+  pub written-project : WrittenProject
+  pub written-house : WrittenHouse
+  pub others-project : OthersProject
+  pub others-house : OthersHouse
+  pub width-written : WidthWritten
+  pub width-behind : WidthBehind
+  pub style-written : StyleWritten
+  pub style-behind : StyleBehind
+  pub write-same : WriteSame
+  -- whatever is changed, added or removed of the skipped kinds, every answer stays
+  pub skipped : Skipped
+  pub worked-files : WorkedFiles
   -- Demand 3: a source cut anywhere, fed and closed, yields the tokens, places and refusal of the uncut one; by value, and through the words of the doors for C
   pub cut-anywhere : CutAnywhere
   pub packed-states : PackedStates

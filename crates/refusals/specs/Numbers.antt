@@ -1,12 +1,15 @@
 -- The numbers of document 01, 'Numbers given instead of an answer', and of document 02, and the limits of 'What is ported and what is added', by name.
 use Prim.Native.Nat.{ℕ}
 
--- bytes of a source; bytes of a table; lists and bindings open at once
+-- bytes of a source; bytes of a table; bytes of a settings file; lists and bindings open at once
 abbrev pub sourceLimit : ℕ
 sourceLimit = 1048576
 
 abbrev pub tableLimit : ℕ
 tableLimit = 16777216
+
+abbrev pub settingsLimit : ℕ
+settingsLimit = 65536
 
 abbrev pub depthLimit : ℕ
 depthLimit = 64
@@ -95,3 +98,15 @@ wrongLength = 21
 -- missing trees, at the table's length
 abbrev pub missingTrees : ℕ
 missingTrees = 22
+
+-- bad settings file, at the first bad record or second of its kind
+abbrev pub badSettings : ℕ
+badSettings = 23
+
+-- set in neither settings file
+abbrev pub notSet : ℕ
+notSet = 24
+
+-- style name not of 1 to 32 bytes, at its length
+abbrev pub badStyleName : ℕ
+badStyleName = 26

@@ -6,10 +6,12 @@ pub struct Refusal {
     pub place: usize,
 }
 
-// The limits of a source and of a table in bytes, and of the lists and bindings open at once.
+// The limits of a source, of a table and of a settings file in bytes, and of the lists and bindings open at once.
 pub const SOURCE_LIMIT: usize = 1048576;
 
 pub const TABLE_LIMIT: usize = 16777216;
+
+pub const SETTINGS_LIMIT: usize = 65536;
 
 pub const DEPTH_LIMIT: usize = 64;
 
@@ -58,3 +60,9 @@ pub const UNKNOWN_KIND: u8 = 20;
 pub const WRONG_LENGTH: u8 = 21;
 
 pub const MISSING_TREES: u8 = 22;
+
+pub const BAD_SETTINGS: u8 = 23;
+
+pub const NOT_SET: u8 = 24;
+
+pub const BAD_STYLE_NAME: u8 = 26;

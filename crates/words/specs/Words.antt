@@ -35,7 +35,7 @@ moreAnswer = 7
 abbrev pub doneAnswer : ℕ
 doneAnswer = 8
 
--- kind; a start or a place; a length or a refusal's number; an integer's high and low 64 bits (two's complement); bytes consumed; a count, below; the last is to spare
+-- kind; a start or a place; a length or a refusal's number; an integer's high and low 64 bits (two's complement); bytes consumed; a count, below; the last is the side of a setting (tulbazhik_settings), and 0 in all answers here
 abbrev pub eight : ℕ → ℕ → ℕ → ℕ → ℕ → ℕ → List ℕ
 eight k p n h l u = k ∷ p ∷ n ∷ h ∷ l ∷ u ∷ 0 ∷ 0 ∷ []
 

@@ -1,4 +1,4 @@
-// Every answer of the doors for C as eight words: kind; start or place; length or number; an integer's high and low 64 bits; bytes consumed; a count; one to spare.
+// Every answer of the doors for C as eight words: kind; start or place; length or number; an integer's high and low 64 bits; bytes consumed; a count; whose file a setting is from (tulbazhik_settings), else 0.
 use feeder::Answer;
 use feeder::Out;
 use lexer::Lexed;

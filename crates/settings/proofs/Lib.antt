@@ -1,0 +1,11 @@
+pub mod Bits
+pub mod Walking
+pub mod Joining
+pub mod Standing
+pub mod Good
+pub mod Copies
+pub mod Looking
+pub mod Spans
+pub mod Answers
+pub mod Faults
+pub mod Cases

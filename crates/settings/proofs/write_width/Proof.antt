@@ -1,0 +1,57 @@
+use denote.Ref.{now}
+use mathlib.Core.Path.{ap, _∙_}
+use mathlib.Core.List.{List}
+use Prim.Native.Nat.{ℕ}
+use lib.ListN.{length}
+use Rattle.refusals.specs.Result.{Result}
+use Rattle.settings.specs.Files.{settingIs}
+use Rattle.settings.specs.Writing.{copyOf, sized, laid}
+use Rattle.settings.proofs.Joining.{width-value}
+use mathlib.Core.Path.{refl}
+use mathlib.Core.Logic.{inl}
+use borrow.Author.Needs.{needs}
+use Rattle.settings.proofs.write_width.Statement.{statement}
+use Rattle.settings.proofs.write_width.Tie as tie
+use Rattle.settings.proofs.write_width.Reads as reads
+use Rattle.settings.proofs.write_width.Lts as lts
+use Rattle.settings.proofs.write.Reads as write-reads
+use Rattle.wide.proofs.put_u32.Reads as put-u32-reads
+
+-- src/lib.rt:164:35
+slice-aggregate-put-u32 : tie.Need-slice-aggregate-put-u32
+slice-aggregate-put-u32 c = search needs
+
+-- src/lib.rt:164:5
+put-u32-requires : tie.Need-put-u32-requires
+put-u32-requires c κs = search needs
+
+-- src/lib.rt:165:21
+slice-aggregate-write : tie.Need-slice-aggregate-write
+slice-aggregate-write c = search needs
+
+-- src/lib.rt:165:5
+write-requires : tie.Need-write-requires
+write-requires c κs = inl refl
+
+-- src/lib.rt:159:1
+same-length : tie.Need-same-length
+same-length c = search needs
+
+-- src/lib.rt:159:1
+returns : tie.Need-returns
+returns c =
+    let e = c .before .before .write .ensures in
+    let q = width-value _ _ (c .before .before .before .before .before .before .put-u32 .ensures) in
+    let x = ap (λ (v : List ℕ). copyOf (now (c .before .before .before .before .before .before .before .before .before .before .args .f)) (settingIs 2 v) (length (now (c .before .before .before .before .before .before .before .before .before .before .args .out)))) q in
+    (e .0 ∙ ap sized x, e .1 ∙ ap (λ (r : Result (List ℕ)). laid r (now (c .before .before .before .before .before .before .before .before .before .before .args .out))) x)
+
+pub write-width-spec : {M : Type 1} → statement M
+write-width-spec =
+    tie.close
+    (tie.spec
+    slice-aggregate-put-u32
+    put-u32-requires
+    slice-aggregate-write
+    write-requires
+    same-length
+    returns)
