@@ -1,4 +1,4 @@
-//! ISLE-like text of any length: rules, declarations and comments, by a fixed seed.
+//! ISLE-like text of any length: rules, declarations and comments, by a fixed seed; and settings files.
 
 use crate::rng::Rng;
 
@@ -70,6 +70,23 @@ pub const WORST_WIDTH: u32 = 2126;
 /// it; so at width 2126 each has room for all but the last symbol, which settles its test, and each looks at all that it has.
 pub fn worst() -> String {
     ["(".repeat(64), "a ".repeat(999), "w".repeat(64), ")".repeat(64)].concat()
+}
+
+/// A settings file of so many bytes with as many records as it can have: an edition, then kinds that are skipped, each with no
+/// payload but the last, which fills the file up.
+pub fn settings(bytes: usize) -> Vec<u8> {
+    let mut file = vec![8, 0, 0, 0, 1, 0, 1, 0];
+    for kind in 32768u16.. {
+        let left = bytes - file.len();
+        if left == 0 {
+            break;
+        }
+        let length = if left < 12 { left } else { 6 };
+        file.extend((length as u32).to_le_bytes());
+        file.extend(kind.to_le_bytes());
+        file.resize(file.len() + length - 6, 0);
+    }
+    file
 }
 
 fn declaration(text: &mut String, rng: &mut Rng) {

@@ -5,7 +5,7 @@ use std::panic::{AssertUnwindSafe, catch_unwind};
 use std::time::{Duration, Instant};
 
 use crate::ffi::{self, kind};
-use crate::generate::WORST_WIDTH;
+use crate::generate::{self, WORST_WIDTH};
 use crate::input::{self, Tree};
 use crate::lexer::Lexer;
 use crate::printer::{SExpr, ToSExpr, print_node};
@@ -16,6 +16,7 @@ pub struct Job {
     room: Vec<u8>,
     page: Vec<u8>,
     prints: Vec<Print>,
+    settings: Vec<Vec<u8>>,
 }
 
 /// The trees that are printed at a width: those that the crate can print there.
@@ -30,10 +31,14 @@ struct Print {
 
 pub const WIDTHS: [u32; 5] = [0, 40, 100, u32::MAX, WORST_WIDTH];
 
+/// The lengths of settings files that are checked: half the limit, and the limit.
+const SETTINGS: [usize; 2] = [32_768, 65_536];
+
 impl Job {
     pub fn new(file: &str, only: Option<&str>) -> Result<Job, String> {
         let text = std::fs::read_to_string(file).map_err(|error| format!("{file}: {error}"))?;
-        let mut job = Job { text, room: Vec::new(), page: Vec::new(), prints: Vec::new() };
+        let settings = SETTINGS.map(generate::settings).into();
+        let mut job = Job { text, room: Vec::new(), page: Vec::new(), prints: Vec::new(), settings };
         let wants = |part: &str| only.is_none_or(|name| name.contains(part));
         let mut room = 0;
         if wants("read") {
@@ -216,6 +221,16 @@ fn windows(job: &mut Job, size: usize) -> usize {
     }
 }
 
+/// A look-up that checks a project's file of the smallest records and the smallest house file, and finds its setting in neither.
+fn settings(job: &mut Job, nth: usize) -> usize {
+    let (project, house, mut words) = (&job.settings[nth], [8, 0, 0, 0, 1, 0, 1, 0], [0; 8]);
+    let (at, size) = (project.as_ptr(), project.len());
+    // SAFETY: the pointers and lengths are a vector's and an array's, and the words are this function's own.
+    unsafe { ffi::tulbazhik_width(at, size, house.as_ptr(), house.len(), &mut words) };
+    assert_eq!(words, [kind::REFUSED, 0, 24, 0, 0, 0, 0, 3], "both files are good and set no width");
+    size
+}
+
 fn print_crate(job: &mut Job, nth: usize) -> usize {
     let print = job.prints.iter().find(|print| print.width == WIDTHS[nth]).expect("it was asked for");
     job.page.clear();
@@ -252,6 +267,8 @@ measured! {
     bench_print_100_windows_1_ours = |job| windows(job, 1);
     bench_print_100_windows_64_ours = |job| windows(job, 64);
     bench_print_100_windows_512_ours = |job| windows(job, 512);
+    bench_settings_32768_ours = |job| settings(job, 0);
+    bench_settings_65536_ours = |job| settings(job, 1);
     bench_print_0_crate = |job| print_crate(job, 0);
     bench_print_40_crate = |job| print_crate(job, 1);
     bench_print_100_crate = |job| print_crate(job, 2);

@@ -94,6 +94,28 @@ fn by_records(folder: &str) -> Result<(), String> {
     Ok(())
 }
 
+/// The most that a byte of a settings file may take.
+const SETTINGS_MOST: f64 = 60.0;
+
+/// A look-up in files with as many records as can be: at half the limit and at the limit, to show that it is linear.
+fn by_settings(whole: &Lines) -> Result<(), String> {
+    println!(
+        "\nlooking a width up in C, instructions per byte of the project's settings file: as many records as it can have, and 8 bytes of a house file\n"
+    );
+    println!("{:<27} {:>7} {:>7}", "", "ours", "at most");
+    for (title, ours) in [
+        ("32768 bytes, 5461 records", "bench_settings_32768_ours"),
+        ("65536 bytes, 10922 records", "bench_settings_65536_ours"),
+    ] {
+        let count = per_byte(whole, ours)?;
+        println!("{title:<27} {count:>7.1} {SETTINGS_MOST:>7.1}");
+        if count > SETTINGS_MOST {
+            return Err(format!("{title}: a look-up takes more than it may"));
+        }
+    }
+    Ok(())
+}
+
 /// Each beside the ordinary print of the same text.
 fn by_windows(folder: &str) -> Result<(), String> {
     println!(
@@ -164,7 +186,8 @@ pub fn table(folder: &str) -> Result<(), String> {
         );
     }
     by_windows(folder)?;
-    by_records(folder)
+    by_records(folder)?;
+    by_settings(&whole)
 }
 
 /// Instructions for each of the bytes that the function named.

@@ -16,13 +16,22 @@ struct job {
 static uint8_t table[1 << 20], text[1 << 20];
 static tulbazhik_print_state printing;
 
-/* Lexes, feeds, reads and prints the source, whole and through windows; `top` is where the calls' part of the stack begins. */
+/* an edition and a width */
+static const uint8_t settings[] = {8, 0, 0, 0, 1, 0, 4, 0, 10, 0, 0, 0, 2, 0, 100, 0, 0, 0};
+
+/* Lexes, feeds, reads and prints the source, whole and through windows, and looks settings up and writes them; `top` is where the
+   calls' part of the stack begins. */
 static void *calls(void *of) {
     struct job *job = of;
     tulbazhik_answer answer = {.kind = TULBAZHIK_END};
     tulbazhik_state state;
     job->top = (unsigned char *)&answer;
     memset(job->stack, PAINT, (size_t)(job->top - job->stack) - 4096);
+    tulbazhik_edition(settings, sizeof settings, settings, sizeof settings, &answer);
+    tulbazhik_width(settings, sizeof settings, settings, sizeof settings, &answer);
+    tulbazhik_style(settings, sizeof settings, settings, sizeof settings, &answer);
+    tulbazhik_write_width(settings, sizeof settings, 80, text, sizeof text, &answer);
+    tulbazhik_write_style(settings, sizeof settings, job->source, 1, text, sizeof text, &answer);
     tulbazhik_next_token(job->source, job->length, 0, &answer);
     tulbazhik_fresh(&state);
     tulbazhik_feed(&state, job->source, job->length, &answer);

@@ -1,10 +1,11 @@
-/* Tulbazhik's proved functions for C (C11 or C++11): lexing, feeding, reading and printing of ISLE rule files.
-   Link libtulbazhik_lex.a (next_token), libtulbazhik_feed.a (fresh, feed, close), libtulbazhik_trees.a (read, print) and
-   libtulbazhik_windows.a (fill), as many of them as are used; `rt staticlib tulbazhik_lex` and so on writes each for x86-64.
+/* Tulbazhik's proved functions for C (C11 or C++11): lexing, feeding, reading and printing of ISLE rule files, and the settings of
+   a project. Link libtulbazhik_lex.a (next_token), libtulbazhik_feed.a (fresh, feed, close), libtulbazhik_trees.a (read, print),
+   libtulbazhik_windows.a (fill) and libtulbazhik_settings.a (edition, width, style, write_width, write_style), as many of them
+   as are used; `rt staticlib tulbazhik_lex` and so on writes each for x86-64.
 
    Each function is proved to meet its contract on every input, to stay within what it is lent, and to return. No pointer is
    checked, so these are the caller's duties:
-   - no pointer is null, not even with the length 0: pass the address of anything for an empty source, piece, table or room;
+   - no pointer is null, not even with the length 0: pass the address of anything for an empty source, piece, table, file or room;
    - each one has as many bytes behind it as its length says, or one whole answer or state;
    - memory that a function writes overlaps nothing else that it is lent, and nobody else touches it during the call;
    - TULBAZHIK_STACK bytes of stack are free.
@@ -17,11 +18,13 @@
 
 /* MAJOR grows when something changes that a caller relies on, MINOR when something is added. */
 #define TULBAZHIK_VERSION_MAJOR 2
-#define TULBAZHIK_VERSION_MINOR 2
+#define TULBAZHIK_VERSION_MINOR 3
 
-/* Bytes of a source; bytes of a table, enough for the table of any source; lists and bindings open at once. */
+/* Bytes of a source; bytes of a table, enough for the table of any source; bytes of a settings file; lists and bindings open at
+   once. */
 #define TULBAZHIK_SOURCE_LIMIT 1048576
 #define TULBAZHIK_TABLE_LIMIT 16777216
+#define TULBAZHIK_SETTINGS_LIMIT 65536
 #define TULBAZHIK_DEPTH_LIMIT 64
 
 /* Bytes of stack that no call exceeds, at 64 levels of nesting. It is measured, not proved: host/check paints a stack,
@@ -43,16 +46,16 @@ typedef struct tulbazhik_answer {
     uint64_t kind;
     union {
         uint64_t start; /* of a token, in the source */
-        uint64_t place; /* of a refusal; for 14 and 18 the bytes needed */
+        uint64_t place; /* of a refusal; for 14 and 18 the bytes needed; of a style name, in its file */
     };
     union {
-        uint64_t length; /* of a token; of what was written into a room */
+        uint64_t length; /* of a token; of what was written into a room; of a style name */
         uint64_t number; /* of a refusal */
     };
-    uint64_t high, low; /* an integer in two's complement, its high and its low 64 bits */
+    uint64_t high, low; /* an integer in two's complement, its high and its low 64 bits; an edition or a width is low */
     uint64_t used;      /* bytes consumed of a piece */
     uint64_t looked;    /* records that the fits test of a print looked at */
-    uint64_t spare;     /* 0 */
+    uint64_t side;      /* of a setting: whose file it is from, or which file is at fault; below */
 } tulbazhik_answer;
 
 /* The kinds of an answer, and the fields that each has. */
@@ -63,15 +66,23 @@ enum {
     TULBAZHIK_AT = 3,      /* start, length */
     TULBAZHIK_SYMBOL = 4,  /* start, length */
     TULBAZHIK_INT = 5,     /* start, length (of the whole spelling), high, low */
-    TULBAZHIK_REFUSED = 6, /* place, number */
+    TULBAZHIK_REFUSED = 6, /* place, number; from a look-up of a setting also side */
     TULBAZHIK_MORE = 7,    /* the whole piece was consumed and no token is ready */
-    TULBAZHIK_DONE = 8     /* length: a table, a text or the next part of one was written, so many bytes; from
-                              tulbazhik_print also looked */
+    TULBAZHIK_DONE = 8     /* length: a table, a text, the next part of one or the copy of a settings file was written, so many
+                              bytes; from tulbazhik_print also looked. From tulbazhik_edition and tulbazhik_width low and
+                              side, from tulbazhik_style place, length and side */
+};
+
+/* The side of a look-up's answer; 0 in every other. */
+enum {
+    TULBAZHIK_PROJECT = 1, /* the project's settings file */
+    TULBAZHIK_HOUSE = 2,   /* the house's */
+    TULBAZHIK_NEITHER = 3  /* the setting is in neither file: with NOT_SET alone */
 };
 
 /* The numbers of refusals, and the place that each names. No refusal changes a byte of a room. */
 enum {
-    TULBAZHIK_TOO_LONG = 1,         /* source, table or feed too long; its limit */
+    TULBAZHIK_TOO_LONG = 1,         /* source, table, feed or settings file too long; its limit */
     TULBAZHIK_PAST_SOURCE = 2,      /* the start is past the source; the source's length */
     TULBAZHIK_FORM_FEED = 3,        /* a form feed where a token should start; its byte */
     TULBAZHIK_OPEN_COMMENT = 4,     /* a block comment open at the end; the outermost `(;` */
@@ -88,11 +99,14 @@ enum {
     TULBAZHIK_BAD_RECORD = 15,      /* a record cut short, or its length below 6 or past the table; the record */
     TULBAZHIK_BAD_SYMBOL = 16,      /* a symbol or name that the lexer would not read as one; the record */
     TULBAZHIK_LOWEST = 17,          /* the integer -2^127 at printing; the record */
-    TULBAZHIK_PRINT_ROOM = 18,      /* the print needs more room; the bytes needed */
+    TULBAZHIK_PRINT_ROOM = 18,      /* the print, or the copy of a settings file, needs more room; the bytes needed */
     TULBAZHIK_FED_AFTER_CLOSE = 19, /* fed after a close; the bytes consumed so far */
     TULBAZHIK_UNKNOWN_KIND = 20,    /* a record of unknown kind; the record */
     TULBAZHIK_WRONG_LENGTH = 21,    /* a record's length is wrong for its kind; the record */
-    TULBAZHIK_MISSING_TREES = 22    /* trees are missing; the table's length */
+    TULBAZHIK_MISSING_TREES = 22,   /* trees are missing; the table's length */
+    TULBAZHIK_BAD_SETTINGS = 23,    /* a bad settings file; the first bad record or second of its kind, 0 if no edition is first */
+    TULBAZHIK_NOT_SET = 24,         /* a setting is in neither settings file; 0 */
+    TULBAZHIK_BAD_STYLE_NAME = 26   /* a style name not of 1 to 32 bytes; its length */
 };
 
 /* A table is records one after another: the nodes of each tree in preorder, all numbers little-endian.
@@ -111,6 +125,22 @@ enum {
     TULBAZHIK_RECORD_INTEGER = 2,
     TULBAZHIK_RECORD_BINDING = 3,
     TULBAZHIK_RECORD_LIST = 4
+};
+
+/* A settings file is records of the same form, TULBAZHIK_SETTINGS_LIMIT bytes at most in all:
+
+   kind                  length      payload
+   EDITION               8           2 bytes, the edition: the first record, and never absent
+   WIDTH                 10          4 bytes, the width
+   STYLE                 6 + n       the style name, 1 to 32 bytes of any value
+   from SKIPPED up       6 and more  skipped, whatever the edition
+
+   Other kinds are refused. Each kind, skipped ones too, is there at most once. */
+enum {
+    TULBAZHIK_SETTING_EDITION = 1,
+    TULBAZHIK_SETTING_WIDTH = 2,
+    TULBAZHIK_SETTING_STYLE = 3,
+    TULBAZHIK_SETTING_SKIPPED = 32768
 };
 
 /* What a feeder keeps between two calls: plain data, which may be copied and stored. Zeros are the fresh state,
@@ -162,6 +192,26 @@ void tulbazhik_print(const uint8_t *table, size_t length, uint32_t width, uint8_
    ends, writes in the window alone, and says no more than the window holds. */
 void tulbazhik_fill(const uint8_t *table, size_t length, uint32_t width, tulbazhik_print_state *state, uint8_t *window,
                     size_t room, tulbazhik_answer *answer) TULBAZHIK_NONNULL;
+
+/* Looking a setting up: the project's if it is set there, else the house's. Both files are checked whole at each call, all of the
+   project's before the house's: DONE, or REFUSED for the file that `side` names (1 or 23), or for neither (24).
+   A project that has no file passes the house's in both places. An empty file is not that: it has no edition and is refused.
+   With DONE, tulbazhik_edition and tulbazhik_width give a number in `low`, and tulbazhik_style says where the name stands:
+   `length` bytes from `place` on, in the file that `side` names. */
+void tulbazhik_edition(const uint8_t *project, size_t project_length, const uint8_t *house, size_t house_length,
+                       tulbazhik_answer *answer) TULBAZHIK_NONNULL;
+void tulbazhik_width(const uint8_t *project, size_t project_length, const uint8_t *house, size_t house_length,
+                     tulbazhik_answer *answer) TULBAZHIK_NONNULL;
+void tulbazhik_style(const uint8_t *project, size_t project_length, const uint8_t *house, size_t house_length,
+                     tulbazhik_answer *answer) TULBAZHIK_NONNULL;
+
+/* Writing a width or a style name: a copy of a settings file in `copy`, with that record replaced in its place or added at the
+   end; every other record keeps its bytes. DONE with the copy's length, or REFUSED: for the file (1 or 23), for the name (26), for
+   a copy above the limit (1), then for want of room (18). Bytes of the room after the copy stay as they were. */
+void tulbazhik_write_width(const uint8_t *file, size_t length, uint32_t width, uint8_t *copy, size_t room,
+                           tulbazhik_answer *answer) TULBAZHIK_NONNULL;
+void tulbazhik_write_style(const uint8_t *file, size_t length, const uint8_t *name, size_t name_length, uint8_t *copy,
+                           size_t room, tulbazhik_answer *answer) TULBAZHIK_NONNULL;
 
 #ifdef __cplusplus
 }

@@ -9,7 +9,9 @@ fn main() {
         None => PathBuf::from(env!("CARGO_MANIFEST_DIR")).join("../../target/staticlib"),
     };
     println!("cargo::rustc-link-search=native={}", folder.display());
-    for name in ["tulbazhik_lex", "tulbazhik_feed", "tulbazhik_trees", "tulbazhik_windows"] {
+    for name in
+        ["tulbazhik_lex", "tulbazhik_feed", "tulbazhik_trees", "tulbazhik_windows", "tulbazhik_settings"]
+    {
         println!("cargo::rerun-if-changed={}", folder.join(format!("lib{name}.a")).display());
         println!("cargo::rustc-link-lib=static={name}");
     }

@@ -57,6 +57,7 @@ mod doors;
 #[allow(dead_code)]
 mod ffi;
 mod guarded;
+mod settings_doors;
 mod stack;
 mod windowed;
 
@@ -80,8 +81,10 @@ fn main() -> ExitCode {
         passed += u64::from(same);
         failed += u64::from(!same);
     }
-    // the doors have no check of a table by itself, op K
-    for &op in frame::OPS.iter().filter(|op| **op != b'K') {
+    let (right, wrong) = settings_doors::compared(&cases, each);
+    (passed, failed) = (passed + right, failed + wrong);
+    // the doors have no check of a table by itself, op K; settings (S, T, t) were compared above
+    for &op in frame::OPS.iter().filter(|op| !b"KSTt".contains(op)) {
         for number in 0..each {
             let case = cases.frame(op, number);
             // the C example prints at width 100 alone

@@ -23,7 +23,8 @@ use crate::numbers;
 pub struct Error {
     /// One of [`numbers`].
     pub number: u8,
-    /// A place in the source or the table; for 1 its limit, for 14 and 18 the bytes needed.
+    /// A place in the source, the table or the settings file; for 1 its limit, for 14 and 18 the bytes needed, for 26 the name's
+    /// length.
     pub place: usize,
 }
 

@@ -22,6 +22,17 @@ pub mod kind {
     pub const DONE: u64 = 8;
 }
 
+/// The last word of a look-up's answer.
+#[allow(dead_code)]
+pub mod side {
+    pub const PROJECT: u64 = 1;
+    pub const HOUSE: u64 = 2;
+    pub const NEITHER: u64 = 3;
+}
+
+/// A function that looks a setting up in a project's file and the house file.
+pub type LookUp = unsafe extern "C" fn(*const u8, usize, *const u8, usize, *mut Words);
+
 unsafe extern "C" {
     pub fn tulbazhik_next_token(src: *const u8, len: usize, at: usize, answer: *mut Words);
     pub fn tulbazhik_fresh(state: *mut Words);
@@ -42,6 +53,44 @@ unsafe extern "C" {
         width: u32,
         state: *mut PrintWords,
         window: *mut u8,
+        room: usize,
+        answer: *mut Words,
+    );
+    pub fn tulbazhik_edition(
+        project: *const u8,
+        project_len: usize,
+        house: *const u8,
+        house_len: usize,
+        answer: *mut Words,
+    );
+    pub fn tulbazhik_width(
+        project: *const u8,
+        project_len: usize,
+        house: *const u8,
+        house_len: usize,
+        answer: *mut Words,
+    );
+    pub fn tulbazhik_style(
+        project: *const u8,
+        project_len: usize,
+        house: *const u8,
+        house_len: usize,
+        answer: *mut Words,
+    );
+    pub fn tulbazhik_write_width(
+        file: *const u8,
+        len: usize,
+        width: u32,
+        copy: *mut u8,
+        room: usize,
+        answer: *mut Words,
+    );
+    pub fn tulbazhik_write_style(
+        file: *const u8,
+        len: usize,
+        name: *const u8,
+        name_len: usize,
+        copy: *mut u8,
         room: usize,
         answer: *mut Words,
     );

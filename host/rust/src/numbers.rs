@@ -4,6 +4,8 @@
 pub const SOURCE_LIMIT: usize = 1_048_576;
 /// Bytes of a table; enough for the table of any source.
 pub const TABLE_LIMIT: usize = 16_777_216;
+/// Bytes of a settings file.
+pub const SETTINGS_LIMIT: usize = 65_536;
 /// Lists and bindings open at once.
 pub const DEPTH_LIMIT: usize = 64;
 
@@ -29,6 +31,9 @@ pub const FED_AFTER_CLOSE: u8 = 19;
 pub const UNKNOWN_KIND: u8 = 20;
 pub const WRONG_LENGTH: u8 = 21;
 pub const MISSING_TREES: u8 = 22;
+pub const BAD_SETTINGS: u8 = 23;
+pub const NOT_SET: u8 = 24;
+pub const BAD_STYLE_NAME: u8 = 26;
 
 /// What a number says.
 pub fn meaning(number: u8) -> &'static str {
@@ -50,11 +55,14 @@ pub fn meaning(number: u8) -> &'static str {
         BAD_RECORD => "a record is cut short, or its length is below 6 or past the table",
         BAD_SYMBOL => "a symbol that the lexer would not read as one",
         LOWEST => "the integer -2^127 has no spelling to print",
-        PRINT_ROOM => "the print needs more room, in bytes",
+        PRINT_ROOM => "the print or the copy needs more room, in bytes",
         FED_AFTER_CLOSE => "fed after a close",
         UNKNOWN_KIND => "a record of unknown kind",
         WRONG_LENGTH => "a record's length is wrong for its kind",
         MISSING_TREES => "trees are missing at the table's end",
+        BAD_SETTINGS => "a settings file's record is bad or the second of its kind, or no edition is first",
+        NOT_SET => "set in neither settings file",
+        BAD_STYLE_NAME => "a style name's length is not 1 to 32 bytes",
         _ => "unknown",
     }
 }

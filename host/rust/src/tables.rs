@@ -91,7 +91,7 @@ pub fn print(table: &[u8], width: u32) -> Result<Text, Error> {
 }
 
 /// The length of what was written, or the refusal.
-fn length_of(words: Words) -> Result<usize, Error> {
+pub(crate) fn length_of(words: Words) -> Result<usize, Error> {
     match words {
         [kind::DONE, _, length, ..] => Ok(length as usize),
         _ => Err(Error::of_words(words)),
@@ -99,7 +99,7 @@ fn length_of(words: Words) -> Result<usize, Error> {
 }
 
 /// Tries a room, and once more with the room that a refusal for want of room names.
-fn grown(
+pub(crate) fn grown(
     first: usize,
     want: u8,
     mut write: impl FnMut(&mut [u8]) -> Result<usize, Error>,
