@@ -1,7 +1,8 @@
-//! The lines that a frame is answered with, from any side that can lex, feed, read, check and lay out.
+//! The lines that a frame is answered with, from any side that can lex, feed, read, check, lay out and take settings from a file.
 
 use std::io::Write;
 
+use crate::document::settings::{self, STYLE, Setting, Value, WIDTH};
 use crate::drive::{self, Feeder};
 use crate::frame::{Frame, OUTPUT_ROOM, TABLE_ROOM, after_layout};
 use crate::token::{Answer, LIMIT, Lexed, Refusal, refusal};
@@ -26,6 +27,8 @@ pub trait Side {
     fn check(&self, table: &[u8], printing: bool) -> Result<Vec<Tree>, Refusal>;
     /// All trees' text at this width, with its count.
     fn lay_out(&self, trees: &[Tree], width: usize) -> Printed;
+    /// A settings file's settings in order, or the place that its 23 names.
+    fn settings(&self, file: &[u8]) -> Result<Vec<Setting>, usize>;
 }
 
 /// Writes the frame's lines and the closing line with a dot.
@@ -50,6 +53,15 @@ pub fn answer(side: &dyn Side, frame: &Frame, out: &mut Vec<u8>) {
         },
         b'V' => windows::answers(side, &Calls::of(source), a, out),
         b'v' => windows::insides(&Calls::of(source), out),
+        b'S' => looked_up(side, a, source.split_at(b.min(source.len())), out),
+        b'T' => {
+            let copy = settings::copy(side, source, WIDTH, &frame.a.to_le_bytes(), b.min(OUTPUT_ROOM));
+            result("file", copy, true, out)
+        }
+        b't' => {
+            let (name, file) = source.split_at(a.min(source.len()));
+            result("file", settings::copy(side, file, STYLE, name, b.min(OUTPUT_ROOM)), true, out)
+        }
         op => panic!("no op {op}"),
     }
     out.extend(b".\n");
@@ -126,4 +138,22 @@ fn result(word: &str, result: Result<Vec<u8>, Refusal>, rooms: bool, out: &mut V
     if rooms {
         out.extend(b"kept\n");
     }
+}
+
+/// The width, the style name, or, for any other number, where that stands; a refusal's line says whose file is at fault.
+fn looked_up(side: &dyn Side, asked: usize, files: (&[u8], &[u8]), out: &mut Vec<u8>) {
+    let (project, house) = files;
+    let kind = if asked == 0 { WIDTH } else { STYLE };
+    let written = match (settings::look_up(side, kind, project, house), asked) {
+        (Ok(Value { bytes, .. }), 1) => return shown("style", &bytes, out),
+        (Ok(Value { bytes, .. }), 0) => {
+            let width = bytes.iter().rev().fold(0u32, |n, byte| n << 8 | *byte as u32);
+            writeln!(out, "width {width}")
+        }
+        (Ok(Value { whose, place, bytes }), _) => writeln!(out, "part {whose:?} {place} {}", bytes.len()),
+        (Err((Refusal { number, place }, whose)), _) => {
+            writeln!(out, "refusal {number} at {place} {whose:?}")
+        }
+    };
+    written.expect("a vector takes every byte");
 }

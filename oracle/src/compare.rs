@@ -16,14 +16,14 @@ use crate::options;
 const BATCH_BYTES: usize = 24 << 20;
 
 pub fn run(words: &[String]) -> Result<(), String> {
-    let options = options::parse(words, 25_000)?;
+    let options = options::parse(words)?;
     if options.rest.is_empty() {
         return Err(format!("compare wants the probe's command after --\n{}", options::USAGE));
     }
     let cases = Cases::new(options.seed, &options.families, false)?;
     let mut compared = 0;
     for &op in &options.ops {
-        let (mut number, end) = (options.first, options.first + options.cases);
+        let (mut number, end) = (options.first, options.first + options.cases.unwrap_or(usual(op)));
         while number < end {
             let (mut batch, mut input) = (Vec::new(), Vec::new());
             while number < end && batch.len() < options.batch && input.len() < BATCH_BYTES {
@@ -41,6 +41,15 @@ pub fn run(words: &[String]) -> Result<(), String> {
     }
     println!("compared {compared} cases: no difference");
     Ok(())
+}
+
+/// Settings files are short, and every order of up to four records is to be among them.
+fn usual(op: u8) -> u64 {
+    match op {
+        b'S' => 1_000_000,
+        b'T' | b't' => 400_000,
+        _ => 200_000,
+    }
 }
 
 /// The number of the frame that differs within the batch, and what to show.

@@ -1,11 +1,11 @@
 //! What the unchanged crate answers: tokens with places, symbols, and the layout of trees.
-//! Where it has no answer (bytes that are not UTF-8, pieces, tables, unfitting empty lists, the fits test's count), the documents'.
+//! Where it has no answer (bytes that are not UTF-8, pieces, tables, unfitting empty lists, the fits test's count, settings), the documents'.
 
 use std::str::from_utf8;
 
 use crate::answer::{Printed, Side};
 use crate::document::lex::{self, literal_len, refused_at};
-use crate::document::{calls, layout, read, table};
+use crate::document::{calls, layout, read, settings, table};
 use crate::drive::Feeder;
 use crate::error::Error;
 use crate::lexer::{Lexer, Token as CrateToken};
@@ -51,6 +51,10 @@ impl Side for CrateSide {
             out.push(b'\n');
         }
         Printed { text: out, looked }
+    }
+
+    fn settings(&self, file: &[u8]) -> Result<Vec<settings::Setting>, usize> {
+        settings::settings(file)
     }
 }
 

@@ -8,7 +8,7 @@ pub struct Frame {
     pub bytes: Vec<u8>,
 }
 
-pub const OPS: &[u8] = b"LFfCcRPWKVvQ";
+pub const OPS: &[u8] = b"LFfCcRPWKVvQSTt";
 
 /// The probe's rooms for a source, a table and an output.
 pub const SOURCE_ROOM: usize = 1_114_112;

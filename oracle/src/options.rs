@@ -3,15 +3,16 @@
 use crate::frame::OPS;
 
 pub const USAGE: &str = "usage:
-  oracle compare [--ops L,F,f,C,c,R,P,W,K,V,v,Q] [--cases N] [--first K] [--seed S] [--families A,B] [--batch N] [--patience SECONDS] -- PROBE [WORDS...]
-      runs N cases of each op, from number K on, through the probe and stops at the first difference
+  oracle compare [--ops L,F,f,C,c,R,P,W,K,V,v,Q,S,T,t] [--cases N] [--first K] [--seed S] [--families A,B] [--batch N] [--patience SECONDS] -- PROBE [WORDS...]
+      runs N cases of each op (else 200,000, of S 1,000,000, of T and t 400,000), from number K on, through the probe and stops at the first difference
   oracle sample [--ops ...] [--cases N] [--seed S] [--families A,B] FRAMES EXPECTED
       writes a fixed sample of N cases of each op: the frames to one file, the answers to the other
-families: pieces literals comments text damaged bytes trees real limit (sources), small tables broken looks (tables)";
+families: pieces literals comments text damaged bytes trees real limit (sources), small tables broken looks (tables), orders cuts changed files (settings)";
 
 pub struct Options {
     pub ops: Vec<u8>,
-    pub cases: u64,
+    /// Where it is said, how many cases of each op.
+    pub cases: Option<u64>,
     /// The number of the first case, to run one again that differed.
     pub first: u64,
     pub seed: u64,
@@ -23,10 +24,10 @@ pub struct Options {
     pub rest: Vec<String>,
 }
 
-pub fn parse(words: &[String], cases: u64) -> Result<Options, String> {
+pub fn parse(words: &[String]) -> Result<Options, String> {
     let mut options = Options {
         ops: OPS.to_vec(),
-        cases,
+        cases: None,
         first: 0,
         seed: 1,
         families: Vec::new(),
@@ -48,7 +49,7 @@ pub fn parse(words: &[String], cases: u64) -> Result<Options, String> {
         let number = || value.parse::<u64>().map_err(|_| format!("{word} wants a number, not {value}"));
         match word.as_str() {
             "--ops" => options.ops = ops(value)?,
-            "--cases" => options.cases = number()?,
+            "--cases" => options.cases = Some(number()?),
             "--first" => options.first = number()?,
             "--seed" => options.seed = number()?,
             "--families" => options.families = value.split(',').map(str::to_string).collect(),

@@ -4,6 +4,8 @@
 // by their paths, for host/src names this file by its own
 #[path = "worked/counts.rs"]
 mod counts;
+#[path = "worked/settings.rs"]
+mod settings;
 #[path = "worked/windows.rs"]
 mod windows;
 
@@ -24,6 +26,7 @@ fn cases() -> Vec<Case> {
     cases.extend(checking());
     cases.extend(windows::cases());
     cases.extend(counts::cases());
+    cases.extend(settings::cases());
     cases
 }
 
@@ -218,13 +221,13 @@ pub fn frames() -> Vec<Frame> {
 
 #[cfg(test)]
 mod tests {
-    use super::{cases, frame};
+    use super::{cases, frame, settings};
     use crate::answer::{Side, answer};
     use crate::crate_side::CrateSide;
     use crate::stand_in::StandIn;
 
     fn holds(side: &dyn Side) {
-        for case in cases() {
+        for case in cases().into_iter().chain(settings::long()) {
             let mut got = Vec::new();
             answer(side, &frame(&case), &mut got);
             assert_eq!(String::from_utf8(got).unwrap(), format!("{}\n.\n", case.4), "{case:?}");

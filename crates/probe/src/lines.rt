@@ -92,10 +92,15 @@ pub fn token(page: &mut [u8; 65536], n: usize, t: Token, start: usize) -> usize 
     line_end(page, m)
 }
 
-pub fn refusal(page: &mut [u8; 65536], n: usize, r: Refusal) -> usize {
+// What a refusal's line begins with, and mostly is.
+pub fn refusal_words(page: &mut [u8; 65536], n: usize, r: Refusal) -> usize {
     let m = bytes(page, n, b"refusal ");
     let m = number(page, m, r.number as usize);
     let m = bytes(page, m, b" at ");
-    let m = number(page, m, r.place);
+    number(page, m, r.place)
+}
+
+pub fn refusal(page: &mut [u8; 65536], n: usize, r: Refusal) -> usize {
+    let m = refusal_words(page, n, r);
     line_end(page, m)
 }

@@ -7,6 +7,7 @@ mod feeding;
 mod lexing;
 mod lines;
 mod rooms;
+mod settled;
 mod tables;
 mod windowed;
 
@@ -95,6 +96,9 @@ fn answer(
         b'W' => tables::rewrite(page, n, src, f.a, table, text),
         b'K' => tables::check(page, n, src, f.a == 1),
         b'V' | b'v' => windowed::print(page, n, job(f), src, table),
+        b'S' => settled::look_up(page, n, f.a, src, f.b),
+        b'T' => settled::write_width(page, n, src, f.a, text, f.b),
+        b't' => settled::write_style(page, n, src, f.a, text, f.b),
         _ => lines::bytes(page, n, b"no such op\n"),
     }
 }

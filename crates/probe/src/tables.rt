@@ -71,7 +71,7 @@ pub fn looked(page: &mut [u8; 65536], n: usize, count: usize) -> usize {
 }
 
 // The front of a room was written, and its rest was not to be touched.
-fn written(page: &mut [u8; 65536], n: usize, word: &[u8], room: &[u8], len: usize) -> usize {
+pub fn written(page: &mut [u8; 65536], n: usize, word: &[u8], room: &[u8], len: usize) -> usize {
     let k = lines::within(len, room);
     let m = shown(page, n, word, &room[..k]);
     kept(page, m, is_marked(&room[k..]))

@@ -6,6 +6,7 @@ mod literals;
 mod looks;
 mod masks;
 mod pieces;
+mod settings;
 mod source_trees;
 mod tables;
 mod text;
@@ -20,12 +21,13 @@ use crate::frame::{Frame, SOURCE_ROOM};
 use crate::rng::Rng;
 use crate::token::LIMIT;
 use crate::worked;
+use settings::Files;
 use tables::SmallTrees;
 
 /// Real ISLE text to cut sources from, where it is at hand.
 const REAL: &str = concat!(env!("CARGO_MANIFEST_DIR"), "/../../shared/bench/real.isle");
 
-/// How often each family comes up among sources, among tables, and among tables whose print is counted.
+/// How often each family comes up among sources, among tables, among tables whose print is counted, and among settings files.
 const SOURCES: &[(&str, usize)] = &[
     ("pieces", 8),
     ("literals", 3),
@@ -38,6 +40,7 @@ const SOURCES: &[(&str, usize)] = &[
 ];
 const TABLES: &[(&str, usize)] = &[("small", 4), ("tables", 3), ("broken", 3)];
 const COUNTED: &[(&str, usize)] = &[("small", 4), ("tables", 3), ("broken", 2), ("looks", 4)];
+const SETTINGS: &[(&str, usize)] = &[("orders", 15), ("cuts", 1), ("changed", 2), ("files", 2)];
 
 /// One source at the length limit in so many cases: each is a megabyte.
 const LIMIT_EVERY: u64 = 2000;
@@ -47,11 +50,13 @@ pub struct Cases {
     sources: Vec<&'static str>,
     tables: Vec<&'static str>,
     counted: Vec<&'static str>,
+    settings: Vec<&'static str>,
     limit: bool,
     /// A sample is to be small and varied; otherwise the enumerated families go through in order.
     sample: bool,
     real: Vec<u8>,
     small: SmallTrees,
+    files: Files,
     /// The documents' own cases come first, by op, unless families are chosen.
     worked: BTreeMap<u8, Vec<Frame>>,
 }
@@ -60,7 +65,7 @@ impl Cases {
     pub fn new(seed: u64, families: &[String], sample: bool) -> Result<Cases, String> {
         let chosen = |name: &str| families.is_empty() || families.iter().any(|family| family == name);
         let known = |name: &str| {
-            let mut all = SOURCES.iter().chain(TABLES).chain(COUNTED);
+            let mut all = SOURCES.iter().chain(TABLES).chain(COUNTED).chain(SETTINGS);
             all.any(|(family, _)| *family == name) || name == "limit"
         };
         if let Some(name) = families.iter().find(|name| !known(name)) {
@@ -84,10 +89,12 @@ impl Cases {
             sources: spread(SOURCES),
             tables: spread(TABLES),
             counted: spread(COUNTED),
+            settings: spread(SETTINGS),
             limit: chosen("limit") && !sample,
             sample,
             real,
             small: SmallTrees::new(if sample { 4 } else { 7 }),
+            files: Files::new(),
             worked,
         })
     }
@@ -113,6 +120,10 @@ impl Cases {
         if takes_table(op) {
             return self.table_frame(op, number, &mut rng);
         }
+        if takes_settings(op) {
+            let (family, turn) = self.turn(&self.settings, number, &mut rng);
+            return self.files.frame(op, family, turn, &mut rng);
+        }
         let source = self.source(number, &mut rng);
         let len = source.len();
         let (a, b) = match op {
@@ -130,6 +141,7 @@ impl Cases {
             // the stored sample of V is older than the count, and keeps its tables
             b'V' if !self.sample => &self.counted,
             _ if takes_table(op) => &self.tables,
+            _ if takes_settings(op) => &self.settings,
             _ => &self.sources,
         }
     }
@@ -166,8 +178,11 @@ impl Cases {
         source
     }
 
-    /// A source at the limit; for an op that takes a table one with many records.
+    /// A source or a settings file at the limit; for an op that takes a table one with many records.
     fn limit_frame(&self, op: u8, turn: u64, rng: &mut Rng) -> Frame {
+        if takes_settings(op) {
+            return self.files.long(op, turn, rng);
+        }
         if takes_table(op) {
             let (table, width) =
                 if op == b'Q' && turn % 2 == 1 { looks::large(rng) } else { tables::large(rng) };
@@ -215,6 +230,11 @@ impl Cases {
 /// The ops that are given a table and not a source.
 fn takes_table(op: u8) -> bool {
     matches!(op, b'P' | b'K' | b'V' | b'v' | b'Q')
+}
+
+/// The ops that are given settings files.
+fn takes_settings(op: u8) -> bool {
+    matches!(op, b'S' | b'T' | b't')
 }
 
 fn of_table(op: u8, table: Vec<u8>, width: usize, small: bool, rng: &mut Rng) -> Frame {

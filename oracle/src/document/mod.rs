@@ -5,4 +5,5 @@ pub mod layout;
 pub mod lex;
 pub mod looking;
 pub mod read;
+pub mod settings;
 pub mod table;

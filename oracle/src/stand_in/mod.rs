@@ -4,11 +4,12 @@
 mod counting;
 mod descent;
 mod machine;
+mod settled;
 
 use std::io::{Read, Write, stdin, stdout};
 
 use crate::answer::{Printed, Side, answer};
-use crate::document::{layout, lex};
+use crate::document::{layout, lex, settings::Setting};
 use crate::drive::Feeder;
 use crate::frame;
 use crate::token::{Lexed, Refusal};
@@ -35,6 +36,10 @@ impl Side for StandIn {
 
     fn lay_out(&self, trees: &[Tree], width: usize) -> Printed {
         Printed { text: layout::page(trees, width).out, looked: counting::looked(trees, width) }
+    }
+
+    fn settings(&self, file: &[u8]) -> Result<Vec<Setting>, usize> {
+        settled::settings(file)
     }
 }
 
