@@ -56,6 +56,10 @@ mod doors;
 #[path = "../rust/src/ffi.rs"]
 #[allow(dead_code)]
 mod ffi;
+// the settings files that bench measures
+#[path = "../../bench/src/generate.rs"]
+#[allow(dead_code)]
+mod generate;
 mod guarded;
 mod settings_doors;
 mod stack;

@@ -3,13 +3,14 @@
 use tulbazhik::{Setting, Settings, SettingsError, Side};
 
 use crate::cases::Cases;
+use crate::cases::settings::record;
 use crate::crate_side::CrateSide;
 use crate::document::settings::{LIMIT, Value, copy as copied, look_up};
 use crate::doors::of_error;
 use crate::ffi::{self, LookUp, Words};
+use crate::generate;
 use crate::guarded::{Bytes, Lent};
 use crate::token::Refusal;
-use crate::tree::put_record;
 
 // ---- the ways
 
@@ -108,25 +109,6 @@ fn written(file: &[u8], kind: u16, value: &[u8], room: usize) -> [(Words, Vec<u8
 
 // ---- the cases
 
-fn record(kind: u16, value: &[u8]) -> Vec<u8> {
-    let mut bytes = Vec::new();
-    put_record(&mut bytes, kind, value);
-    bytes
-}
-
-/// A file of so many bytes of the smallest records: an edition and skipped kinds, the last of which fills it up.
-fn smallest(bytes: usize) -> Vec<u8> {
-    let mut file = record(1, &[1, 0]);
-    for kind in 32768.. {
-        match bytes - file.len() {
-            0 => return file,
-            left if left < 12 => file.extend(record(kind, &vec![0; left - 6])),
-            _ => file.extend(record(kind, &[])),
-        }
-    }
-    file
-}
-
 struct Tally {
     passed: u64,
     failed: u64,
@@ -205,9 +187,9 @@ pub fn compared(cases: &Cases, each: u64) -> (u64, u64) {
     }
     // full files, with and without a fault at the end, and one byte too many
     let house = [record(1, &[2, 0]), record(2, &[100, 0, 0, 0]), record(3, b"broad")].concat();
-    let full = smallest(LIMIT);
+    let full = generate::settings(LIMIT);
     let second = [&full[..LIMIT - 8], &record(32768, &[0, 0])].concat();
-    let files = [&full, &second, &smallest(LIMIT - 10), &smallest(LIMIT - 11), &[&full[..], b"x"].concat()];
+    let files = [&full, &second, &generate::settings(LIMIT - 10), &generate::settings(LIMIT - 11), &[&full[..], b"x"].concat()];
     for file in files {
         look_ups(file, &house, &mut tally);
         look_ups(&house, file, &mut tally);

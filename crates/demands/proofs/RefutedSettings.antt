@@ -4,7 +4,7 @@ use mathlib.Core.List.{List, [], _∷_, _++_}
 use Prim.Native.Nat.{ℕ}
 use native.Mathlib.Omega.{arith}
 use lib.ListN.{length, getD, replicate}
-use Rattle.refusals.specs.Numbers.{tooLong, badSettings, printRoom, badStyleName, settingsLimit}
+use Rattle.refusals.specs.Numbers.{badSettings, badStyleName}
 use Rattle.refusals.specs.Result.{Result, ok, refused}
 use Rattle.wide.specs.Bytes.{le, number}
 use Rattle.records.specs.Records.{record-of, headAt}
@@ -12,9 +12,9 @@ use Rattle.settings.specs.Files.{fileOf, among, settingsAt, settingsOf}
 use Rattle.settings.specs.declared.Side.{Side}
 use Rattle.settings.specs.declared.Side.the-variants.{Project, House, Neither}
 use Rattle.settings.specs.LookUps.{Sided, given, faulty, Span, heldFrom, lookUp, editionIn, widthIn, styleIn, styleNameIn, partAt}
-use Rattle.settings.specs.Writing.{replaced, copyOf, laid, widthSetting, styleSetting}
-use Rattle.settings.specs.Kept.{edition1, wide, styleA, styleBc, unread}
-use Rattle.words.specs.Words.{eight, doneAnswer, lengthWords}
+use Rattle.settings.specs.Writing.{replaced, copyOf, sized, laid, widthSetting, styleSetting}
+use Rattle.settings.specs.Worked.{edition1, wide, styleA, styleBc, unread}
+use Rattle.words.specs.Words.{eight, doneAnswer, refusedAnswer, lengthWords}
 use Rattle.tulbazhik_settings.specs.Sides.{sidedWords, numberWords, styleWords}
 use Rattle.demands.proofs.Refuted.{Not}
 
@@ -147,29 +147,47 @@ style-padded e = let z : _≡_ {A = ℕ} 16 15 = ap (λ (r : Result (List ℕ)).
 
 -- ---- the door for C
 
--- tulbazhik_edition, tulbazhik_width: the answer without its side; the number where a length stands
-door-sideless : Not (eight doneAnswer 0 0 0 80 0 ≡ numberWords (widthIn (edition1 ++ wide 80) edition1))
+-- tulbazhik_edition: the number where a length stands; the house's side
+door-edition-length : Not (sidedWords doneAnswer 0 1 0 Project ≡ numberWords (editionIn edition1 edition1))
 unfolding numberWords lookUp settingsOf settingsAt heldFrom headAt number among
-door-sideless e = let z : _≡_ {A = ℕ} 0 1 = ap (λ (w : List ℕ). getD w 7 0) e in omega arith
+door-edition-length e = let z : _≡_ {A = ℕ} 1 0 = ap (λ (w : List ℕ). getD w 2 0) e in omega arith
 
-door-length : Not (sidedWords doneAnswer 0 1 0 Project ≡ numberWords (editionIn edition1 edition1))
+door-edition-side : Not (sidedWords doneAnswer 0 0 1 House ≡ numberWords (editionIn edition1 edition1))
 unfolding numberWords lookUp settingsOf settingsAt heldFrom headAt number among
-door-length e = let z : _≡_ {A = ℕ} 1 0 = ap (λ (w : List ℕ). getD w 2 0) e in omega arith
+door-edition-side e = let z : _≡_ {A = ℕ} 2 1 = ap (λ (w : List ℕ). getD w 7 0) e in omega arith
+
+-- tulbazhik_width: the answer without its side; what is set in neither as the width 0
+door-width-side : Not (eight doneAnswer 0 0 0 80 0 ≡ numberWords (widthIn (edition1 ++ wide 80) edition1))
+unfolding numberWords lookUp settingsOf settingsAt heldFrom headAt number among
+door-width-side e = let z : _≡_ {A = ℕ} 0 1 = ap (λ (w : List ℕ). getD w 7 0) e in omega arith
+
+door-width-zero : Not (sidedWords doneAnswer 0 0 0 Neither ≡ numberWords (widthIn edition1 edition1))
+unfolding numberWords lookUp settingsOf settingsAt heldFrom headAt number among
+door-width-zero e = let z : _≡_ {A = ℕ} 8 6 = ap (λ (w : List ℕ). getD w 0 0) e in omega arith
 
 -- tulbazhik_style: place and length exchanged; a refusal as a name of no byte
-door-exchanged : Not (sidedWords doneAnswer 1 14 0 Project ≡ styleWords (styleIn (edition1 ++ styleA) edition1))
+door-style-exchanged : Not (sidedWords doneAnswer 1 14 0 Project ≡ styleWords (styleIn (edition1 ++ styleA) edition1))
 unfolding styleWords lookUp settingsOf settingsAt heldFrom headAt number among record-of le
-door-exchanged e = let z : _≡_ {A = ℕ} 1 14 = ap (λ (w : List ℕ). getD w 1 0) e in omega arith
+door-style-exchanged e = let z : _≡_ {A = ℕ} 1 14 = ap (λ (w : List ℕ). getD w 1 0) e in omega arith
 
-door-nameless : Not (sidedWords doneAnswer 0 0 0 Neither ≡ styleWords (styleIn edition1 edition1))
+door-style-none : Not (sidedWords doneAnswer 0 0 0 Neither ≡ styleWords (styleIn edition1 edition1))
 unfolding styleWords lookUp settingsOf settingsAt heldFrom headAt number among
-door-nameless e = let z : _≡_ {A = ℕ} 8 6 = ap (λ (w : List ℕ). getD w 0 0) e in omega arith
+door-style-none e = let z : _≡_ {A = ℕ} 8 6 = ap (λ (w : List ℕ). getD w 0 0) e in omega arith
 
--- tulbazhik_write_width, tulbazhik_write_style: the room in place of the copy's length; done where there is no room
-door-room : Not (eight doneAnswer 0 99 0 0 0 ≡ lengthWords (ok 18))
-unfolding lengthWords
-door-room e = let z : _≡_ {A = ℕ} 99 18 = ap (λ (w : List ℕ). getD w 2 0) e in omega arith
+-- tulbazhik_write_width: the room in place of the copy's length; done where there is no room
+door-width-room : Not (eight doneAnswer 0 99 0 0 0 ≡ lengthWords (sized (copyOf edition1 (widthSetting 100) 99)))
+unfolding lengthWords copyOf settingsOf settingsAt heldFrom headAt number among fileOf replaced record-of le
+door-width-room e = let z : _≡_ {A = ℕ} 99 18 = ap (λ (w : List ℕ). getD w 2 0) e in omega arith
 
-door-full : Not (eight doneAnswer 0 18 0 0 0 ≡ lengthWords (refused printRoom 18))
-unfolding lengthWords
-door-full e = let z : _≡_ {A = ℕ} 8 6 = ap (λ (w : List ℕ). getD w 0 0) e in omega arith
+door-width-full : Not (eight doneAnswer 0 18 0 0 0 ≡ lengthWords (sized (copyOf edition1 (widthSetting 100) 17)))
+unfolding lengthWords copyOf settingsOf settingsAt heldFrom headAt number among fileOf replaced record-of le
+door-width-full e = let z : _≡_ {A = ℕ} 8 6 = ap (λ (w : List ℕ). getD w 0 0) e in omega arith
+
+-- tulbazhik_write_style: the name's length in place of the copy's; a side where there is one file
+door-style-length : Not (eight doneAnswer 0 2 0 0 0 ≡ lengthWords (sized (copyOf edition1 (styleSetting (98 ∷ 99 ∷ [])) 99)))
+unfolding lengthWords copyOf settingsOf settingsAt heldFrom headAt number among fileOf replaced record-of le
+door-style-length e = let z : _≡_ {A = ℕ} 2 16 = ap (λ (w : List ℕ). getD w 2 0) e in omega arith
+
+door-style-side : Not (sidedWords refusedAnswer 0 26 0 Project ≡ lengthWords (sized (copyOf edition1 (styleSetting []) 99)))
+unfolding lengthWords copyOf settingsOf settingsAt heldFrom headAt number among fileOf replaced record-of le
+door-style-side e = let z : _≡_ {A = ℕ} 1 0 = ap (λ (w : List ℕ). getD w 7 0) e in omega arith

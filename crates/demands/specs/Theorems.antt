@@ -17,7 +17,8 @@ use Rattle.reader.specs.Promised.{ReadGood, ReadTokens, ReadAccepts}
 use Rattle.printer.specs.Looking.{LookedBound}
 use Rattle.windows.specs.AnyCall.{GivenWithin, NoRoom, EndStays, RefusedAtFirst, NeverRoom}
 use Rattle.windows.specs.Joined.{WindowsJoined, WindowsEnd, WindowsRefused, WindowsPrinted, PrintRefused}
-use Rattle.settings.specs.Kept.{GoodSound, GoodComplete, FaultPlaced as SettingsFaultPlaced, CopyGood, WrittenProject, WrittenHouse, OthersProject, OthersHouse, WidthWritten, WidthBehind, StyleWritten, StyleBehind, WriteSame, Skipped, WorkedFiles}
+use Rattle.settings.specs.Kept.{GoodSound, GoodComplete, FaultPlaced as SettingsFaultPlaced, CopyGood, WrittenProject, WrittenHouse, OthersProject, OthersHouse, WidthWritten, WidthBehind, StyleWritten, StyleBehind, WriteSame, Skipped}
+use Rattle.settings.specs.Worked.{WorkedFiles}
 use Rattle.tulbazhik_windows.specs.States.{ThroughWords}
 use Rattle.demands.specs.OneAnswer.{OneAnswer}
 use Rattle.demands.specs.OneAnswerDoors.{OneAnswerDoors}

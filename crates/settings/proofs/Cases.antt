@@ -5,7 +5,7 @@ use Rattle.records.specs.Records.{record-of, headAt}
 use Rattle.settings.specs.Files.{fileOf, among, settingsAt, settingsOf}
 use Rattle.settings.specs.LookUps.{heldFrom, lookUp}
 use Rattle.settings.specs.Writing.{replaced, copyOf}
-use Rattle.settings.specs.Kept.{WorkedFiles}
+use Rattle.settings.specs.Worked.{WorkedFiles}
 
 pub worked-files : WorkedFiles
 unfolding le number record-of headAt fileOf among settingsAt settingsOf heldFrom lookUp replaced copyOf

@@ -49,7 +49,7 @@ module _ (f before : List ℕ) (at kind len : ℕ) (hb : Bytes f) (h : HeadIn f 
   bad-more fits new (refused n a) p =
       let b = p .1 in
       let o : List ℕ = record-of kind (payload f at len) in
-      let k : a - at ≡ length o + (a - (at + len)) = omega (arith, b .from, read-length f at kind len hb h room) in (
+      let k : a - at ≡ length o + (a - (at + len)) = omega (arith, b .from, read-length f at kind len (h .2) room) in (
         p .0,
         record {
           front = settingIs kind (payload f at len) ∷ b .front;

@@ -1,7 +1,7 @@
 pub mod Bits
-pub mod Walking
 pub mod Joining
 pub mod Standing
+pub mod Walking
 pub mod Good
 pub mod Copies
 pub mod Looking

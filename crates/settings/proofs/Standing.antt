@@ -32,25 +32,29 @@ at-end : (f before : List ℕ) (at : ℕ) → length f ≤ at → Sound f before
 unfolding fileOf GoodFrom
 at-end f before at h = (drop-of-length-le f {i = at} h, tt)
 
+-- a record that is in the file whole: its length, and its value's
+module _ (f : List ℕ) (at kind len : ℕ) (six : headLen ≤ len) (room : at + len ≤ length f) where
+  pub read-length : length (record-of kind (payload f at len)) ≡ len
+  read-length = length-record kind (payload f at len) ∙ payload-size f at len room six
+
+  pub value-length : length (payload f at len) ≡ len - headLen
+  value-length = omega (arith, payload-size f at len room six)
+
 -- a head that was read: its record stands at the place, and is one more good setting before those behind it
 module _ (f : List ℕ) (at kind len : ℕ) (hb : Bytes f) (h : HeadIn f at (Is kind len)) (room : at + len ≤ length f) where
-  pub read-length : length (record-of kind (payload f at len)) ≡ len
-  read-length = length-record kind (payload f at len) ∙ payload-size f at len room (h .2)
-
   pub read-kind : kind < 2 ^ 16
   read-kind = subst (λ (k : ℕ). k < 2 ^ 16) (h .0) (part-lt f (at + 4) 2 hb (omega (arith, h .2)))
 
   pub read-front : drop at f ≡ record-of kind (payload f at len) ++ drop (at + len) f
   read-front =
       record-stands f at kind len hb room (h .2) (h .1) (h .0)
-      ∙ ap (λ (k : ℕ). record-of kind (payload f at len) ++ drop (at + k) f) read-length
+      ∙ ap (λ (k : ℕ). record-of kind (payload f at len) ++ drop (at + k) f) (read-length f at kind len (h .2) room)
 
   pub read-good : (before : List ℕ) (ys : List Setting) → valueFits kind (len - headLen) ≡ true → among kind before ≡ false → GoodFrom (kind ∷ before) ys
       → GoodFrom before (settingIs kind (payload f at len) ∷ ys)
   unfolding GoodFrom
   read-good before ys fits new g =
-      let n : len - headLen ≡ length (payload f at len) = omega (arith, payload-size f at len room (h .2)) in
-      (subst (λ (k : ℕ). valueFits kind k ≡ true) n fits, new, read-kind, g)
+      (subst (λ (k : ℕ). valueFits kind k ≡ true) (sym (value-length f at kind len (h .2) room)) fits, new, read-kind, g)
 
   sound-more : (before : List ℕ) → valueFits kind (len - headLen) ≡ true → among kind before ≡ false → (r : Result (List Setting)) → Sound f (kind ∷ before) (at + len) r
       → Sound f before at (andThen r (λ ys. ok (settingIs kind (payload f at len) ∷ ys)))

@@ -13,12 +13,12 @@ use Rattle.refusals.specs.Result.{Result, ok, refused, andThen}
 use Rattle.records.specs.Records.{headLen, payload, headAt}
 use Rattle.records.specs.declared.Head.{Head}
 use Rattle.records.specs.declared.Head.the-variants.{Cut, Is}
-use Rattle.records.proofs.Heads.{length-record, payload-size}
 use Rattle.lists.proofs.Choice.{and-left, and-right, true-false}
 use Rattle.settings.specs.Kinds.{valueFits}
 use Rattle.settings.specs.Files.{Setting, settingIs, bytesOf, among, ofHead, settingsAt, settingsOf, isEdition}
 use Rattle.settings.specs.LookUps.{Held, heldFrom}
 use Rattle.settings.specs.PrivateFinding.{foundAt, foundFrom, foundIn, badAt, bit, slot, Marked, told, Tells}
+use Rattle.settings.proofs.Standing.{read-length, value-length}
 use Rattle.settings.specs.declared.finding.Found.{Found}
 use Rattle.settings.specs.declared.finding.Found.the-variants as found
 
@@ -88,11 +88,8 @@ module _ {f : List ℕ} {kind : ℕ} {words : List ℕ} {at place size : ℕ} (w
       abbrev y : Setting
       y = settingIs k (payload f at len)
 
-      value-length : length (payload f at len) ≡ len - headLen
-      value-length = omega (arith, payload-size f at len (omega arith) fl)
-
-      record-length : length (bytesOf y) ≡ len
-      record-length = length-record k (payload f at len) ∙ payload-size f at len (omega arith) fl
+      room : at + len ≤ length f
+      room = omega arith
 
       -- the words tell one kind more, and the answer is that of what is left
       gone : {words′ : List ℕ} {place′ size′ : ℕ} → Tells words′ (k ∷ w .before) → length words′ ≡ 513
@@ -116,7 +113,7 @@ module _ {f : List ℕ} {kind : ℕ} {words : List ℕ} {at place size : ℕ} (w
         where
           same : (x : Result (List Setting)) → foundFrom kind place size at (andThen x (λ ys. ok (y ∷ ys))) ≡ foundFrom kind (at + headLen) (len - headLen) (at + len) x
           same (ok ys) =
-              rw (and-right (eqb k kind) (eqb place 0) b, and-left (eqb k kind) (eqb place 0) b, ne-eqb (at + headLen) 0 (λ q. omega (arith, q)), value-length) refl
+              rw (and-right (eqb k kind) (eqb place 0) b, and-left (eqb k kind) (eqb place 0) b, ne-eqb (at + headLen) 0 (λ q. omega (arith, q)), value-length f at k len fl room) refl
           same (refused n p) = refl
 
       pub passed : {words′ : List ℕ} → Tells words′ (k ∷ w .before) → length words′ ≡ 513 → (eqb k kind && eqb place 0) ≡ false → Walk f kind words′ (at + len) place size
@@ -127,7 +124,7 @@ module _ {f : List ℕ} {kind : ℕ} {words : List ℕ} {at place size : ℕ} (w
               → cond q (foundAt (cond p h (heldFrom kind (at + length (bytesOf y)) ys))) (found.At place size) ≡ cond q (foundAt (heldFrom kind (at + len) ys)) (found.At place size)
           by ys h true true b = true-false b
           by ys h true false b = refl
-          by ys h false true b = ap (λ (j : ℕ). foundAt (heldFrom kind (at + j) ys)) record-length
+          by ys h false true b = ap (λ (j : ℕ). foundAt (heldFrom kind (at + j) ys)) (read-length f at k len fl room)
           by ys h false false b = refl
 
           same : (x : Result (List Setting)) → foundFrom kind place size at (andThen x (λ ys. ok (y ∷ ys))) ≡ foundFrom kind place size (at + len) x

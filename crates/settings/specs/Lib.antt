@@ -4,3 +4,4 @@ pub mod LookUps
 pub mod Writing
 pub mod PrivateFinding
 pub mod Kept
+pub mod Worked

@@ -16,6 +16,7 @@ pub enum Found {
     Absent,
 }
 
+// Whether a value of a kind may have n bytes.
 pub fn value_fits(kind: usize, n: usize) -> bool
     ensures { λ r. ⌜ r ≡ valueFits kind n ⌝ }
 {

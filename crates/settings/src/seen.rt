@@ -4,11 +4,12 @@ ghost use Prim.Native.Nat.{ℕ};
 ghost use mathlib.Core.List.{List, _∷_};
 ghost use lib.ListN.{length};
 ghost use Rattle.settings.specs.Files.{among};
-ghost use Rattle.settings.specs.PrivateFinding.{slot, Marked, Tells, told};
+ghost use Rattle.settings.specs.PrivateFinding.{slot, Marked, Tells};
 
 // 64 bits for the kinds that are known, and one for each kind that is skipped.
 pub const WORDS: usize = 513;
 
+// The bit of a kind: the known ones have the first 64, and behind them stand those that are skipped.
 fn slot_of(kind: usize) -> usize
     ensures { λ r. ⌜ r ≡ slot kind ⌝ }
 {

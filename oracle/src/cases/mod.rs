@@ -6,7 +6,7 @@ mod literals;
 mod looks;
 mod masks;
 mod pieces;
-mod settings;
+pub mod settings;
 mod source_trees;
 mod tables;
 mod text;

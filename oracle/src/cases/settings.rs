@@ -9,7 +9,8 @@ use crate::crate_side::CrateSide;
 use crate::document::settings::{EDITION, FIRST_SKIPPED, LIMIT, STYLE, WIDTH, copy};
 use crate::frame::{Frame, SOURCE_ROOM};
 use crate::rng::Rng;
-use records::{GOOD, good, record, records};
+pub use records::record;
+use records::{GOOD, good, records};
 
 /// The longest rows of records that are all tried.
 const LONGEST: u32 = 4;

@@ -1,3 +1,4 @@
+-- `settings::style_name`: the part of the file that the name was found in, or no bytes.
 use denote.Ref.{now}
 use mathlib.Core.Path.{ap, _∙_}
 use Rattle.settings.specs.LookUps.{Side}
@@ -7,99 +8,75 @@ use Rattle.settings.proofs.Spans.{spanned-as, name-faulty, name-read, f
 use borrow.Author.Needs.{needs}
 use Rattle.settings.proofs.style_name.Statement.{statement}
 use Rattle.settings.proofs.style_name.Tie as tie
-use Rattle.settings.proofs.style_name.Reads as reads
-use Rattle.settings.proofs.style_name.Lts as lts
-use Rattle.settings.proofs.setting.Reads as setting-reads
 
--- src/lib.rt:125:11
 setting-requires : tie.Need-setting-requires
 setting-requires c κs = search needs
 
--- src/lib.rt:126:23
 enum-known-side : tie.Need-enum-known-side
 enum-known-side c = search needs
 
--- src/lib.rt:126:35
 sub-result : tie.Need-sub-result
 sub-result c = search needs
 
--- src/lib.rt:126:35
 part-result-start : tie.Need-part-result-start
 part-result-start c = search needs
 
--- src/lib.rt:126:35
 part-result-end : tie.Need-part-result-end
 part-result-end c = search needs
 
--- src/lib.rt:127:18
 enum-known-side-2 : tie.Need-enum-known-side-2
 enum-known-side-2 c = search needs
 
--- src/lib.rt:129:27
 enum-told : tie.Need-enum-told
 enum-told c = search needs
 
--- src/lib.rt:129:27
 add-end : tie.Need-add-end
 add-end c =
     let d = spanned-as styleKind (now (c .before .before .before .before .before .before .before .before .args .project)) (now (c .before .before .before .before .before .before .before .before .args .house)) (λ i. (c .before .before .before .before .before .before .before .shared-slice-known .given i) .fits) (λ i. (c .before .before .before .before .before .before .shared-slice-known2 .given i) .fits) _ _ (c .before .before .before .before .before .setting .ensures) (c .before .before .before .side2 .given .1 ∙ ap (λ (s : Side). Of s (c .before .before .before .side2 .given .0 .1 .0) (c .before .before .before .side2 .given .0 .1 .1 .0)) (c .enum-told .given .1)) in
     search (needs, d .room)
 
--- src/lib.rt:130:17
 sub-result-2 : tie.Need-sub-result-2
 sub-result-2 c = search needs
 
--- src/lib.rt:130:17
 part-result-start-2 : tie.Need-part-result-start-2
 part-result-start-2 c = search needs
 
--- src/lib.rt:130:17
 part-result-end-2 : tie.Need-part-result-end-2
 part-result-end-2 c =
     let d = spanned-as styleKind (now (c .before .before .before .before .before .before .before .before .args .project)) (now (c .before .before .before .before .before .before .before .before .args .house)) (λ i. (c .before .before .before .before .before .before .before .shared-slice-known .given i) .fits) (λ i. (c .before .before .before .before .before .before .shared-slice-known2 .given i) .fits) _ _ (c .before .before .before .before .before .setting .ensures) (c .before .before .before .side2 .given .1 ∙ ap (λ (s : Side). Of s (c .before .before .before .side2 .given .0 .1 .0) (c .before .before .before .side2 .given .0 .1 .1 .0)) (c .enum-told .given .1)) in
     d .room
 
--- src/lib.rt:133:27
 enum-told-2 : tie.Need-enum-told-2
 enum-told-2 c = search needs
 
--- src/lib.rt:133:27
 add-end-2 : tie.Need-add-end-2
 add-end-2 c =
     let d = spanned-as styleKind (now (c .before .before .before .before .before .before .before .before .args .project)) (now (c .before .before .before .before .before .before .before .before .args .house)) (λ i. (c .before .before .before .before .before .before .before .shared-slice-known .given i) .fits) (λ i. (c .before .before .before .before .before .before .shared-slice-known2 .given i) .fits) _ _ (c .before .before .before .before .before .setting .ensures) (c .before .before .before .side2 .given .1 ∙ ap (λ (s : Side). Of s (c .before .before .before .side2 .given .0 .1 .0) (c .before .before .before .side2 .given .0 .1 .1 .0)) (c .enum-told2 .given .1)) in
     search (needs, d .room)
 
--- src/lib.rt:134:17
 sub-result-3 : tie.Need-sub-result-3
 sub-result-3 c = search needs
 
--- src/lib.rt:134:17
 part-result-start-3 : tie.Need-part-result-start-3
 part-result-start-3 c = search needs
 
--- src/lib.rt:134:17
 part-result-end-3 : tie.Need-part-result-end-3
 part-result-end-3 c =
     let d = spanned-as styleKind (now (c .before .before .before .before .before .before .before .before .args .project)) (now (c .before .before .before .before .before .before .before .before .args .house)) (λ i. (c .before .before .before .before .before .before .before .shared-slice-known .given i) .fits) (λ i. (c .before .before .before .before .before .before .shared-slice-known2 .given i) .fits) _ _ (c .before .before .before .before .before .setting .ensures) (c .before .before .before .side2 .given .1 ∙ ap (λ (s : Side). Of s (c .before .before .before .side2 .given .0 .1 .0) (c .before .before .before .side2 .given .0 .1 .1 .0)) (c .enum-told2 .given .1)) in
     d .room
 
--- src/lib.rt:136:30
 enum-told-3 : tie.Need-enum-told-3
 enum-told-3 c = search needs
 
--- src/lib.rt:136:30
 sub-result-4 : tie.Need-sub-result-4
 sub-result-4 c = search needs
 
--- src/lib.rt:136:30
 part-result-start-4 : tie.Need-part-result-start-4
 part-result-start-4 c = search needs
 
--- src/lib.rt:136:30
 part-result-end-4 : tie.Need-part-result-end-4
 part-result-end-4 c = search needs
 
--- src/lib.rt:122:1
 returns : tie.Need-returns
 returns c =
     let d = spanned-as styleKind (now (c .before .before .before .before .before .before .before .args .project)) (now (c .before .before .before .before .before .before .before .args .house)) (λ i. (c .before .before .before .before .before .before .shared-slice-known .given i) .fits) (λ i. (c .before .before .before .before .before .shared-slice-known2 .given i) .fits) _ _ (c .before .before .before .before .setting .ensures) (c .before .before .side .given .1) in

@@ -1,3 +1,4 @@
+-- `settings::value_at`: two bytes or four, which are within the file.
 use denote.Ref.{now}
 use mathlib.Core.Path.{_≡_, sym}
 use mathlib.Core.Logic.{⊎-elim}
@@ -6,27 +7,19 @@ use Rattle.records.proofs.Heads.{within-is}
 use borrow.Author.Needs.{needs}
 use Rattle.settings.proofs.value_at.Statement.{statement}
 use Rattle.settings.proofs.value_at.Tie as tie
-use Rattle.settings.proofs.value_at.Reads as reads
-use Rattle.settings.proofs.value_at.Lts as lts
-use Rattle.wide.proofs.u16_at.Reads as u16-at-reads
-use Rattle.wide.proofs.u32_at.Reads as u32-at-reads
 
--- src/lib.rt:82:9
 u16-at-requires : tie.Need-u16-at-requires
 u16-at-requires c κs = search needs
 
--- src/lib.rt:82:9
 returns : tie.Need-returns
 returns c =
     let s = c .before .before .before in
     let e = c .before .if1 .taken in
     rw e (sym (within-is 2 (now (s .args .f)) (s .args .place) _ (omega (arith, s .pre .1, e)) (c .u16-at .ensures)))
 
--- src/lib.rt:84:5
 u32-at-requires : tie.Need-u32-at-requires
 u32-at-requires c κs = search needs
 
--- src/lib.rt:77:1
 returns-2 : tie.Need-returns-2
 returns-2 c =
     let s = c .before .before .before in

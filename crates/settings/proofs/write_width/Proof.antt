@@ -1,3 +1,4 @@
+-- `settings::write_width`: the bytes of the width make the value.
 use denote.Ref.{now}
 use mathlib.Core.Path.{ap, _∙_}
 use mathlib.Core.List.{List}
@@ -12,32 +13,22 @@ use mathlib.Core.Logic.{inl}
 use borrow.Author.Needs.{needs}
 use Rattle.settings.proofs.write_width.Statement.{statement}
 use Rattle.settings.proofs.write_width.Tie as tie
-use Rattle.settings.proofs.write_width.Reads as reads
-use Rattle.settings.proofs.write_width.Lts as lts
-use Rattle.settings.proofs.write.Reads as write-reads
-use Rattle.wide.proofs.put_u32.Reads as put-u32-reads
 
--- src/lib.rt:164:35
 slice-aggregate-put-u32 : tie.Need-slice-aggregate-put-u32
 slice-aggregate-put-u32 c = search needs
 
--- src/lib.rt:164:5
 put-u32-requires : tie.Need-put-u32-requires
 put-u32-requires c κs = search needs
 
--- src/lib.rt:165:21
 slice-aggregate-write : tie.Need-slice-aggregate-write
 slice-aggregate-write c = search needs
 
--- src/lib.rt:165:5
 write-requires : tie.Need-write-requires
 write-requires c κs = inl refl
 
--- src/lib.rt:159:1
 same-length : tie.Need-same-length
 same-length c = search needs
 
--- src/lib.rt:159:1
 returns : tie.Need-returns
 returns c =
     let e = c .before .before .write .ensures in

@@ -1,50 +1,38 @@
+-- `settings::seen::mark`: the bit of the kind, and no other.
 use denote.Ref.{now}
 use native.Mathlib.Omega.{arith}
 use Rattle.settings.proofs.Bits.{slot-lt, seen-before, seen-now}
 use borrow.Author.Needs.{needs}
 use Rattle.settings.proofs.seen.mark.Statement.{statement}
 use Rattle.settings.proofs.seen.mark.Tie as tie
-use Rattle.settings.proofs.seen.mark.Reads as reads
-use Rattle.settings.proofs.seen.mark.Lts as lts
-use Rattle.settings.proofs.seen.slot_of.Reads as slot-of-reads
 
--- src/seen.rt:26:9
 slot-of-requires : tie.Need-slot-of-requires
 slot-of-requires c κs = search needs
 
--- src/seen.rt:29:13
 mul-w : tie.Need-mul-w
 mul-w c = search needs
 
--- src/seen.rt:29:13
 slice-read-w : tie.Need-slice-read-w
 slice-read-w c = let p = c .before .before .before .pre in rw (c .before .slot-of .ensures) (omega (arith, slot-lt _ (p .1), p .0))
 
--- src/seen.rt:30:9
 shr-if1 : tie.Need-shr-if1
 shr-if1 c = search needs
 
--- src/seen.rt:31:9
 returns : tie.Need-returns
 returns c before t = let p = c .before .before .before .before .pre in seen-before (now (c .before .before .before .before .args .words)) before _ _ (p .1) (c .before .before .slot-of .ensures) t (c .if1 .taken)
 
--- src/seen.rt:33:21
 shl-words : tie.Need-shl-words
 shl-words c = search needs
 
--- src/seen.rt:33:5
 mul-words : tie.Need-mul-words
 mul-words c = search needs
 
--- src/seen.rt:33:5
 slice-write-words : tie.Need-slice-write-words
 slice-write-words c = let p = c .before .before .before .before .pre in rw (c .before .before .slot-of .ensures) (omega (arith, slot-lt _ (p .1), p .0))
 
--- src/seen.rt:22:1
 same-length : tie.Need-same-length
 same-length c = search needs
 
--- src/seen.rt:22:1
 returns-2 : tie.Need-returns-2
 returns-2 c before t = let p = c .before .before .before .before .pre in seen-now (now (c .before .before .before .before .args .words)) before _ _ (p .1) (c .before .before .slot-of .ensures) t (p .0) (c .if1 .left)
 

@@ -1,3 +1,4 @@
+-- `settings::splicing::splice`: each refusal by its test; then three parts, each put into the room that the one before left.
 use denote.Ref.{now}
 use mathlib.Core.Path.{sym, ap, _∙_}
 use lib.ListN.{length}
@@ -7,115 +8,85 @@ use Rattle.settings.proofs.Joining.{answered, bad-name, copy-long, copy
 use borrow.Author.Needs.{needs}
 use Rattle.settings.proofs.splicing.splice.Statement.{statement}
 use Rattle.settings.proofs.splicing.splice.Tie as tie
-use Rattle.settings.proofs.splicing.splice.Reads as reads
-use Rattle.settings.proofs.splicing.splice.Lts as lts
-use Rattle.lists.proofs.put.Reads as put-reads
-use Rattle.records.proofs.put.Reads as put-reads′
-use Rattle.settings.proofs.finding.value_fits.Reads as value-fits-reads
 
--- src/splicing.rt:28:9
 value-fits-requires : tie.Need-value-fits-requires
 value-fits-requires c κs = search needs
 
--- src/splicing.rt:29:9
 returns : tie.Need-returns
 returns c =
     let s = c .before .before .before .before .before in let f = now (s .args .f) in let v = now (s .args .value) in let k = length (now (s .args .out)) in
     answered _ _ _ (bad-name f v (s .args .at) (s .args .next) (s .args .kind) k (s .pre .1) (s .pre .2) (sym (c .before .value-fits .ensures) ∙ not-true _ (c .if1 .taken)))
 
--- src/splicing.rt:34:16
 sub-left : tie.Need-sub-left
 sub-left c = search needs
 
--- src/splicing.rt:35:23
 add-after : tie.Need-add-after
 add-after c = search needs
 
--- src/splicing.rt:35:17
 add-after-2 : tie.Need-add-after-2
 add-after-2 c = search needs
 
--- src/splicing.rt:36:16
 add-size : tie.Need-add-size
 add-size c = search needs
 
--- src/splicing.rt:38:9
 returns-2 : tie.Need-returns-2
 returns-2 c =
     let s = c .before .before .before .before .before .before in let f = now (s .args .f) in let v = now (s .args .value) in let k = length (now (s .args .out)) in
     answered _ _ _ (copy-long f v (s .args .at) (s .args .next) (s .args .kind) k (s .pre .1) (s .pre .2) (sym (c .before .before .value-fits .ensures) ∙ not-false _ (c .before .if1 .left)) (c .if2 .taken))
 
--- src/splicing.rt:44:9
 returns-3 : tie.Need-returns-3
 returns-3 c =
     let s = c .before .before .before .before .before .before .before in let f = now (s .args .f) in let v = now (s .args .value) in let k = length (now (s .args .out)) in
     answered _ _ _ (copy-roomless f v (s .args .at) (s .args .next) (s .args .kind) k (s .pre .1) (s .pre .2) (sym (c .before .before .before .value-fits .ensures) ∙ not-false _ (c .before .before .if1 .left)) (c .before .if2 .left) (c .if3 .taken))
 
--- src/splicing.rt:49:16
 sub-put : tie.Need-sub-put
 sub-put c = search needs
 
--- src/splicing.rt:49:16
 part-put-start : tie.Need-part-put-start
 part-put-start c = search needs
 
--- src/splicing.rt:49:16
 part-put-end : tie.Need-part-put-end
 part-put-end c = search needs
 
--- src/splicing.rt:49:5
 put-requires : tie.Need-put-requires
 put-requires c κs = search needs
 
--- src/splicing.rt:50:31
 sub-put-2 : tie.Need-sub-put-2
 sub-put-2 c = search needs
 
--- src/splicing.rt:50:31
 part-put-start-2 : tie.Need-part-put-start-2
 part-put-start-2 c = search needs
 
--- src/splicing.rt:50:31
 part-put-end-2 : tie.Need-part-put-end-2
 part-put-end-2 c = search needs
 
--- src/splicing.rt:50:5
 put-requires-2 : tie.Need-put-requires-2
 put-requires-2 c κs = search needs
 
--- src/splicing.rt:51:16
 sub-put-3 : tie.Need-sub-put-3
 sub-put-3 c = search needs
 
--- src/splicing.rt:51:16
 part-put-start-3 : tie.Need-part-put-start-3
 part-put-start-3 c = search needs
 
--- src/splicing.rt:51:16
 part-put-end-3 : tie.Need-part-put-end-3
 part-put-end-3 c = search needs
 
--- src/splicing.rt:51:28
 sub-put-4 : tie.Need-sub-put-4
 sub-put-4 c = search needs
 
--- src/splicing.rt:51:28
 part-put-start-4 : tie.Need-part-put-start-4
 part-put-start-4 c = search needs
 
--- src/splicing.rt:51:28
 part-put-end-4 : tie.Need-part-put-end-4
 part-put-end-4 c = search needs
 
--- src/splicing.rt:51:5
 put-requires-3 : tie.Need-put-requires-3
 put-requires-3 c κs = search needs
 
--- src/splicing.rt:15:1
 same-length : tie.Need-same-length
 same-length c = search needs
 
--- src/splicing.rt:15:1
 returns-4 : tie.Need-returns-4
 returns-4 c =
     let s = c .before .before .before .before .before .before .before .before .before .before .before .before .before .before .before .before .before .before .before .before .before in let f = now (s .args .f) in let v = now (s .args .value) in let k = length (now (s .args .out)) in
