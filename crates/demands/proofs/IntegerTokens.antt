@@ -1,6 +1,7 @@
--- A printed integer's digits are read back as its token. Assumes nothing.
+-- A printed integer's text is read back as its token. Assumes nothing.
 use mathlib.Core.Path.{_≡_, refl, sym, ap, _∙_, subst}
 use mathlib.Core.List.{List, [], _∷_, _++_}
+use mathlib.Core.Logic.{⊎-elim}
 use mathlib.Core.Bool.{Bool, true, false, cond}
 use Prim.Native.Nat.{ℕ, zero, suc, _+_, _*_, _-_, _/_, _%_, _^_, _≤_, _<_}
 use native.Mathlib.Omega.{arith}
@@ -10,18 +11,21 @@ use lib.IntN.{ℤ, pos, negsuc, natAbs}
 use lib.ListN.{getD, length, length-append}
 use mir.Syntax.{w128}
 use mir.ValLaws.{toZ-pos, toZ-neg}
-use borrow.Author.Tests.{lt-ltb, ltb-true, ltb-false, lt-leb, ne-eqb}
+use borrow.Author.Tests.{lt-ltb, ltb-true, ltb-false, lt-leb, eqb-false, ne-eqb}
+use Rattle.lists.proofs.Choice.{pick}
 use Rattle.refusals.specs.Result.{ok}
 use Rattle.classes.specs.declared.Class.the-variants.{Digit}
 use Rattle.classes.specs.Classes.{classOf, semicolon, digitOf, literalByte}
-use Rattle.wide.specs.Value.{split, grown, is as isInteger, integerOf}
-use Rattle.wide.specs.Text.{digits, digitsOf, integerText}
-use Rattle.wide.proofs.TwoLimbs.{split-val}
+use Rattle.wide.specs.Value.{val, split, grown, is as isInteger, integerOf}
+use Rattle.wide.specs.Text.{digits, digitsOf, decimal, lowestInteger, isLowest, lowestText, integerText}
+use Rattle.wide.proofs.TwoLimbs.{which, split-val}
+use Rattle.wide.proofs.Lowest.{lowest-is}
 use Rattle.lexer.specs.declared.literal.Reading.{Reading}
 use Rattle.lexer.specs.declared.literal.Reading.the-variants.{Empty, Number}
 use Rattle.lexer.specs.Tokens.{token, is, int}
 use Rattle.lexer.specs.Literals.{taken, digit, grow, reading, literalEnd, radixOf, signed, concluded, unsignedIn}
 use Rattle.lexer.specs.Lexing.{Between, skip, lexIn}
+use Rattle.table.specs.Trees.{InRange}
 
 ten : (P : ℕ → Type 0) → P 0 → P 1 → P 2 → P 3 → P 4 → P 5 → P 6 → P 7 → P 8 → P 9 → (d : ℕ) → d < 10 → P d
 ten P a b c d e f g h i j zero l = a
@@ -42,9 +46,9 @@ record Decimal (b : ℕ) : Type 0 where
   counts : literalByte b ≡ true
   plain : radixOf 48 b ≡ 10
 
-decimal : (d : ℕ) → d < 10 → Decimal (48 + d)
+digit-byte : (d : ℕ) → d < 10 → Decimal (48 + d)
 unfolding classOf literalByte digitOf radixOf
-decimal =
+digit-byte =
     let r : (b : ℕ) → classOf b ≡ Digit → literalByte b ≡ true → radixOf 48 b ≡ 10 → Decimal b = λ b x y z. record { class = x; counts = y; plain = z } in
     ten (λ d. Decimal (48 + d)) (r 48 refl refl refl) (r 49 refl refl refl) (r 50 refl refl refl) (r 51 refl refl refl) (r 52 refl refl refl) (r 53 refl refl refl) (r 54 refl refl refl) (r 55 refl refl refl) (r 56 refl refl refl) (r 57 refl refl refl)
 
@@ -86,7 +90,7 @@ spells-one : (n : ℕ) → n < 10 → Spells n ((48 + n) ∷ [])
 unfolding taken grown
 spells-one n h =
     record {
-      all = (decimal n h, tt);
+      all = (digit-byte n h, tt);
       some = omega arith;
       counts = λ i. grow-is Empty i n h ∙ ten (λ d. taken 10 0 d i ≡ Number (split d)) refl refl refl refl refl refl refl refl refl refl n h;
     }
@@ -96,7 +100,7 @@ spells-more n ds l s =
     let h : n % 10 < 10 = mod-lt n (lit< tt) in
     let e : n / 10 * 10 + n % 10 ≡ n = div-add-mod' n 10 in
     record {
-      all = all-last ds (48 + n % 10) (s .all) (decimal (n % 10) h);
+      all = all-last ds (48 + n % 10) (s .all) (digit-byte (n % 10) h);
       some = omega (arith, length-append ds ((48 + n % 10) ∷ []));
       counts = λ i.
           grows-last Empty ds (48 + n % 10) i
@@ -183,35 +187,58 @@ negative n h =
     rw (ne-eqb (suc n) (2 ^ 127) (differs (2 ^ 127) (suc n) h), mod-eq-of-lt (less (2 ^ 128) n (lit< tt)))
     (ap isInteger (toZ-neg w128 n (smaller (2 ^ 127) n h)))
 
--- an integer's decimals, before a byte that ends a literal and names no radix, are its token; -2^127 has none
-pub spelt : (c : ℕ) (r : List ℕ) → literalByte c ≡ false → radixOf 48 c ≡ 10 → (z : ℤ) (p : ℕ) → natAbs z < 2 ^ 127
-    → lexIn 0 Between (integerText z ++ (c ∷ r)) p ≡ ok (is (token (int z) p (length (integerText z))))
-unfolding integerText
-spelt c r e f (pos n) p h =
+-- the decimals of an integer of a magnitude below 2^127
+decimal-spelt : (c : ℕ) (r : List ℕ) → literalByte c ≡ false → radixOf 48 c ≡ 10 → (z : ℤ) (p : ℕ) → natAbs z < 2 ^ 127
+    → lexIn 0 Between (decimal z ++ (c ∷ r)) p ≡ ok (is (token (int z) p (length (decimal z))))
+decimal-spelt c r e f (pos n) p h =
     let s : Spells n (digitsOf n) = spells-of n h in
     leads c r e f n p (digitsOf n) s
     ∙ unsigned c r e f false p p n (digitsOf n) s
     ∙ ap (signed p (p + length (digitsOf n))) (positive n h)
     ∙ ap (λ (k : ℕ). ok (is (token (int (pos n)) p k))) (span p (length (digitsOf n)))
-spelt c r e f (negsuc n) p h =
+decimal-spelt c r e f (negsuc n) p h =
     let s : Spells (suc n) (digitsOf (suc n)) = spells-of (suc n) h in
     minus-leads p (digitsOf (suc n) ++ (c ∷ r))
     ∙ unsigned c r e f true p (suc p) (suc n) (digitsOf (suc n)) s
     ∙ ap (signed p (suc p + length (digitsOf (suc n)))) (negative n h)
     ∙ ap (λ (k : ℕ). ok (is (token (int (negsuc n)) p k))) (span-suc p (length (digitsOf (suc n))))
 
--- they begin with no `;`, which would open a comment behind `(`
-pub starts : (z : ℤ) (r : List ℕ) → natAbs z < 2 ^ 127 → semicolon (classOf (getD (integerText z ++ r) 0 0)) ≡ false
-unfolding classOf integerText
-starts (pos n) r h = lead (digitsOf n) (spells-of n h)
+decimal-starts : (z : ℤ) (r : List ℕ) → natAbs z < 2 ^ 127 → semicolon (classOf (getD (decimal z ++ r) 0 0)) ≡ false
+unfolding classOf
+decimal-starts (pos n) r h = lead (digitsOf n) (spells-of n h)
   where
     lead : (ds : List ℕ) → Spells n ds → semicolon (classOf (getD (ds ++ r) 0 0)) ≡ false
     lead [] s = absurd (omega (arith, s .some))
     lead (b ∷ ds) s = ap semicolon (s .all .0 .class)
-starts (negsuc n) r h = refl
+decimal-starts (negsuc n) r h = refl
 
--- and are not empty
-pub spelt-some : (z : ℤ) → natAbs z < 2 ^ 127 → 1 ≤ length (integerText z)
+-- the hexadecimals of -2^127
+lowest-spelt : (c : ℕ) (r : List ℕ) → literalByte c ≡ false → (p : ℕ) → lexIn 0 Between (lowestText ++ (c ∷ r)) p ≡ ok (is (token (int lowestInteger) p 34))
+unfolding lexIn skip classOf unsignedIn radixOf reading literalEnd literalByte digitOf grow taken grown val concluded integerOf
+lowest-spelt c r e p = rw e (ap (λ (k : ℕ). ok (is (token (int lowestInteger) p k))) (omega arith))
+
+-- an integer in range that is not -2^127 has a magnitude below 2^127
+above : (N n : ℕ) → n < N → (n ≡ N - 1 → ⊥) → suc n < N
+above N n h d = ⊎-elim (λ l. l) (λ (l : N ≤ suc n). absurd (d (omega arith))) (which (suc n) N)
+
+magnitude : (z : ℤ) → InRange z → isLowest z ≡ false → natAbs z < 2 ^ 127
+unfolding isLowest
+magnitude (pos n) h e = h
+magnitude (negsuc n) h e = above (2 ^ 127) n h (eqb-false n (2 ^ 127 - 1) e)
+
+-- what holds of either text holds of the text of an integer in range
+either : (P : List ℕ → Type 0) (z : ℤ) → InRange z → (z ≡ lowestInteger → P lowestText) → (natAbs z < 2 ^ 127 → P (decimal z)) → P (integerText z)
 unfolding integerText
-spelt-some (pos n) h = spells-of n h .some
-spelt-some (negsuc n) h = omega arith
+either P z h f g = pick P (isLowest z) (λ e. f (lowest-is z e)) (λ e. g (magnitude z h e))
+
+-- an integer's text, before a byte that ends a literal and names no radix, is its token
+pub spelt : (c : ℕ) (r : List ℕ) → literalByte c ≡ false → radixOf 48 c ≡ 10 → (z : ℤ) (p : ℕ) → InRange z
+    → lexIn 0 Between (integerText z ++ (c ∷ r)) p ≡ ok (is (token (int z) p (length (integerText z))))
+spelt c r e f z p h =
+    either (λ (t : List ℕ). lexIn 0 Between (t ++ (c ∷ r)) p ≡ ok (is (token (int z) p (length t)))) z h
+    (λ q. lowest-spelt c r e p ∙ ap (λ (x : ℤ). ok (is (token (int x) p 34))) (sym q))
+    (decimal-spelt c r e f z p)
+
+-- it begins with no `;`, which would open a comment behind `(`
+pub starts : (z : ℤ) (r : List ℕ) → InRange z → semicolon (classOf (getD (integerText z ++ r) 0 0)) ≡ false
+starts z r h = either (λ (t : List ℕ). semicolon (classOf (getD (t ++ r) 0 0)) ≡ false) z h (λ _. unfold classOf in refl) (decimal-starts z r)

@@ -6,7 +6,7 @@ use lib.IntN.{pos, negsuc}
 use lib.ListN.{length, replicate}
 use Rattle.refusals.specs.Result.{ok}
 use Rattle.classes.specs.Classes.{classOf}
-use Rattle.wide.specs.Text.{digits, integerText}
+use Rattle.wide.specs.Text.{digits, isLowest, integerText}
 use Rattle.wide.specs.Bytes.{le, number}
 use Rattle.records.specs.Records.{record-of, headAt}
 use Rattle.table.specs.Trees.{Tree, Trees, symbol, integer, binding, list, none, more, runsOn, isSymbol, records, recordsOf}
@@ -74,18 +74,18 @@ layouts =
     ∷ []
 
 pub pages : map (λ (c : Case). page (c .trees) (c .width)) layouts ≡ map (λ (c : Case). c .bytes) layouts
-unfolding layouts breakColumn fitsIn cost lay pageFrom integerText digits
+unfolding layouts breakColumn fitsIn cost lay pageFrom isLowest integerText digits
 pages = refl
 
 pub sizes : map (λ (c : Case). length (page (c .trees) (c .width))) layouts ≡ map (λ (c : Case). c .size) layouts
-unfolding layouts breakColumn fitsIn cost lay pageFrom integerText digits
+unfolding layouts breakColumn fitsIn cost lay pageFrom isLowest integerText digits
 sizes = refl
 
 -- the same of their tables: the answer of `print`, and a buffer of that size after it
 pub answers : map (λ (c : Case). printing (recordsOf (c .trees)) (c .width) (c .size)) layouts ≡ map (λ (c : Case). ok (text (c .size) (c .looked))) layouts
-unfolding layouts breakColumn fitsIn cost lay pageFrom shares upTo looksIn looked pageLooked integerText digits printing tableOf treesAt treeAt itemsAt recordAt headAt stepAt number isSymbol runsOn classOf records record-of le
+unfolding layouts breakColumn fitsIn cost lay pageFrom shares upTo looksIn looked pageLooked isLowest integerText digits printing tableOf treesAt treeAt itemsAt recordAt headAt stepAt number isSymbol runsOn classOf records record-of le
 answers = refl
 
 pub buffers : map (λ (c : Case). printedInto (recordsOf (c .trees)) (c .width) (replicate (c .size) 0)) layouts ≡ map (λ (c : Case). c .bytes) layouts
-unfolding layouts breakColumn fitsIn cost lay pageFrom integerText digits printedInto tableOf treesAt treeAt itemsAt recordAt headAt stepAt number isSymbol runsOn classOf records record-of le
+unfolding layouts breakColumn fitsIn cost lay pageFrom isLowest integerText digits printedInto tableOf treesAt treeAt itemsAt recordAt headAt stepAt number isSymbol runsOn classOf records record-of le
 buffers = refl

@@ -14,7 +14,7 @@ use Rattle.printer.specs.Layout.{Wrapping, Wrap, SingleLine, bytes, column, gap
 use Rattle.lists.proofs.Choice.{true-false}
 use Rattle.demands.proofs.IntegerTokens.{starts}
 use Rattle.demands.proofs.RestTokens.{Sep, space, line, close, Clear, first-byte, Gives, gives-end, gives-symbol, gives-integer, gives-open, gives-close, gives-at, gives-space, gives-line, gives-spaces, source-gives}
-use Rattle.demands.proofs.Spellable.{Spellable, Spellables, magnitude}
+use Rattle.demands.proofs.Spellable.{Spellable, Spellables}
 
 regroup : (a b c r : List ℕ) → a ++ (b ++ (c ++ r)) ≡ (a ++ (b ++ c)) ++ r
 regroup a b c r = ap (λ (l : List ℕ). a ++ l) (sym (append-assoc b c r)) ∙ sym (append-assoc a (b ++ c) r)
@@ -31,7 +31,7 @@ clear-name (b ∷ n) r h = ap semicolon (first-byte b n h)
 clear-lay : (x : Tree) (m : Wrapping) (w i c : ℕ) (r : List ℕ) → Spellable x → Clear (bytes (lay x m w i c) ++ r)
 unfolding Spellable lay
 clear-lay (symbol n) m w i c r h = clear-name n r h
-clear-lay (integer z) m w i c r h = starts z r (magnitude z (h .0) (h .1))
+clear-lay (integer z) m w i c r h = starts z r h
 clear-lay (binding n x) m w i c r h = subst Clear (regroup-name n (bytes (lay x m w i (c + length (named n)))) r) (clear-name n _ (h .0))
 clear-lay (list xs) m w i c r h = unfold classOf in refl
 
@@ -69,7 +69,7 @@ module _ (s : List ℕ) (limit : length s ≤ sourceLimit) where
 
     gives-lay : (x : Tree) → Spellable x → (m : Wrapping) (w i c : ℕ) (y : Series Bare) (r : List ℕ) → Sep r → Gives s y r → Gives s (treeTokens x y) (bytes (lay x m w i c) ++ r)
     gives-lay (symbol n) h m w i c y r k g = gives-symbol s limit n r y h k g
-    gives-lay (integer z) h m w i c y r k g = gives-integer s limit z r y (magnitude z (h .0) (h .1)) k g
+    gives-lay (integer z) h m w i c y r k g = gives-integer s limit z r y h k g
     gives-lay (binding n x) h m w i c y r k g =
         let b = lay x m w i (c + length (named n)) in
         subst (Gives s (treeTokens (binding n x) y)) (regroup-name n (bytes b) r)

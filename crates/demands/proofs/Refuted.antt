@@ -18,7 +18,7 @@ use Rattle.wide.specs.declared.Wide.{Wide}
 use Rattle.wide.specs.declared.Grown.{Grown}
 use Rattle.wide.specs.declared.Grown.the-variants.{Fits, Over}
 use Rattle.wide.specs.Value.{val, value, valueOf, grown, is as integer, integerOf}
-use Rattle.wide.specs.Text.{digits, integerText}
+use Rattle.wide.specs.Text.{digits, isLowest, integerText}
 use Rattle.wide.specs.Bytes.{le, number, numberIn, wideBytes, wideIn}
 use Rattle.lexer.specs.declared.literal.Reading.{Reading}
 use Rattle.lexer.specs.declared.literal.Reading.the-variants.{Empty, Bad, Number}
@@ -255,23 +255,40 @@ negative-zero : Not (true ≡ ltZ (value (wide (pos 0) 0)) (pos 0))
 unfolding valueOf
 negative-zero e = let z : _≡_ {A = ℕ} 0 1 = cc in omega arith
 
--- wide::text_len: 0 for zero; the minus sign left out
+-- wide::text_len: 0 for zero; the minus sign left out; the length of a decimal for -2^127
 len-zero : Not (0 ≡ length (integerText (value (wide (pos 0) 0))))
-unfolding valueOf integerText digits
+unfolding valueOf isLowest integerText digits
 len-zero e = omega arith
 
 len-minus : Not (1 ≡ length (integerText (value (wide (negsuc 0) (2 ^ 64 - 1)))))
-unfolding valueOf integerText digits
+unfolding valueOf isLowest integerText digits
 len-minus e = omega arith
+
+len-lowest : Not (40 ≡ length (integerText (value (wide (negsuc (2 ^ 63 - 1)) 0))))
+unfolding valueOf isLowest integerText digits
+len-lowest e = omega arith
 
 -- wide::put_text: a leading zero; a byte written where the room is too short
 decimal-leading : Not (48 ∷ 55 ∷ [] ≡ fitted (integerText (value (wide (pos 0) 7))) (0 ∷ 0 ∷ []))
-unfolding valueOf integerText digits
+unfolding valueOf isLowest integerText digits
 decimal-leading e = let z : _≡_ {A = ℕ} 48 55 = cc in omega arith
 
 decimal-short : Not (49 ∷ [] ≡ fitted (integerText (value (wide (pos 0) 12))) (0 ∷ []))
-unfolding valueOf integerText digits
+unfolding valueOf isLowest integerText digits
 decimal-short e = let z : _≡_ {A = ℕ} 49 0 = cc in omega arith
+
+-- and for -2^127 its decimal; an upper-case X; a minus sign before its hexadecimal
+lowest-decimal : Not (45 ∷ digits 39 (2 ^ 127) ≡ fitted (integerText (value (wide (negsuc (2 ^ 63 - 1)) 0))) (replicate 40 0))
+unfolding valueOf isLowest integerText digits
+lowest-decimal e = let z : _≡_ {A = ℕ} 45 48 = cc in omega arith
+
+lowest-upper : Not (48 ∷ 88 ∷ 56 ∷ replicate 31 48 ≡ fitted (integerText (value (wide (negsuc (2 ^ 63 - 1)) 0))) (replicate 34 0))
+unfolding valueOf isLowest integerText digits
+lowest-upper e = let z : _≡_ {A = ℕ} 88 120 = cc in omega arith
+
+lowest-minus : Not (45 ∷ 48 ∷ 120 ∷ 56 ∷ replicate 31 48 ≡ fitted (integerText (value (wide (negsuc (2 ^ 63 - 1)) 0))) (replicate 35 0))
+unfolding valueOf isLowest integerText digits
+lowest-minus e = let z : _≡_ {A = ℕ} 45 48 = cc in omega arith
 
 -- wide::put_u16: the most significant byte first; a byte past the number changed
 u16-order : Not (0 ∷ 1 ∷ [] ≡ fitted (le 2 1) (9 ∷ 9 ∷ []))

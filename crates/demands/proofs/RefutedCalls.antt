@@ -130,15 +130,15 @@ unfolding isSymbol runsOn classOf
 symbol-digit e = let z : _≡_ {A = ℕ} 0 1 = cc in omega arith
 
 -- table::step_at: an empty symbol is let through; a list that is too deep is let through; 21 after 13
-step-empty : Not (judged-as.Symbol 6 ≡ stepAt (6 ∷ 0 ∷ 0 ∷ 0 ∷ 1 ∷ 0 ∷ []) false 0 true)
+step-empty : Not (judged-as.Symbol 6 ≡ stepAt (6 ∷ 0 ∷ 0 ∷ 0 ∷ 1 ∷ 0 ∷ []) 0 true)
 unfolding stepAt recordAt headAt number isSymbol
 step-empty e = let z : _≡_ {A = ℕ} 0 1 = cc in omega arith
 
-step-deep : Not (judged-as.List 0 ≡ stepAt (10 ∷ 0 ∷ 0 ∷ 0 ∷ 4 ∷ 0 ∷ 0 ∷ 0 ∷ 0 ∷ 0 ∷ []) false 0 false)
+step-deep : Not (judged-as.List 0 ≡ stepAt (10 ∷ 0 ∷ 0 ∷ 0 ∷ 4 ∷ 0 ∷ 0 ∷ 0 ∷ 0 ∷ 0 ∷ []) 0 false)
 unfolding stepAt recordAt headAt number
 step-deep e = let z : _≡_ {A = ℕ} 0 1 = cc in omega arith
 
-step-length : Not (judged-as.Fault 13 ≡ stepAt (11 ∷ 0 ∷ 0 ∷ 0 ∷ 4 ∷ 0 ∷ 0 ∷ 0 ∷ 0 ∷ 0 ∷ 0 ∷ []) false 0 false)
+step-length : Not (judged-as.Fault 13 ≡ stepAt (11 ∷ 0 ∷ 0 ∷ 0 ∷ 4 ∷ 0 ∷ 0 ∷ 0 ∷ 0 ∷ 0 ∷ 0 ∷ []) 0 false)
 unfolding stepAt recordAt headAt number
 step-length e = let z : _≡_ {A = ℕ} 13 21 = cc in omega arith
 
@@ -152,19 +152,19 @@ unfolding pastSymbol recordAt headAt number isSymbol runsOn classOf
 past-stays e = omega arith
 
 -- table::past: past a list's record and not its item; past a list whose item is missing
-past-item : Not (10 ≡ pastOf 0 (treeAt (10 ∷ 0 ∷ 0 ∷ 0 ∷ 4 ∷ 0 ∷ 1 ∷ 0 ∷ 0 ∷ 0 ∷ 7 ∷ 0 ∷ 0 ∷ 0 ∷ 1 ∷ 0 ∷ 97 ∷ []) false depthLimit 0))
+past-item : Not (10 ≡ pastOf 0 (treeAt (10 ∷ 0 ∷ 0 ∷ 0 ∷ 4 ∷ 0 ∷ 1 ∷ 0 ∷ 0 ∷ 0 ∷ 7 ∷ 0 ∷ 0 ∷ 0 ∷ 1 ∷ 0 ∷ 97 ∷ []) depthLimit 0))
 unfolding treeAt itemsAt recordAt headAt stepAt number isSymbol runsOn classOf
 past-item e = omega arith
 
-past-missing : Not (10 ≡ pastOf 0 (treeAt (10 ∷ 0 ∷ 0 ∷ 0 ∷ 4 ∷ 0 ∷ 1 ∷ 0 ∷ 0 ∷ 0 ∷ []) false depthLimit 0))
+past-missing : Not (10 ≡ pastOf 0 (treeAt (10 ∷ 0 ∷ 0 ∷ 0 ∷ 4 ∷ 0 ∷ 1 ∷ 0 ∷ 0 ∷ 0 ∷ []) depthLimit 0))
 unfolding treeAt itemsAt recordAt headAt stepAt number
 past-missing e = omega arith
 
 -- table::check: the empty table is refused; a table that ends inside a list is good
-check-empty : Not (refused 15 0 ≡ judged (tableOf false []))
+check-empty : Not (refused 15 0 ≡ judged (tableOf []))
 unfolding tableOf treesAt
 check-empty e = let z : _≡_ {A = ℕ} 0 1 = cc in omega arith
 
-check-missing : Not (ok tt ≡ judged (tableOf false (10 ∷ 0 ∷ 0 ∷ 0 ∷ 4 ∷ 0 ∷ 1 ∷ 0 ∷ 0 ∷ 0 ∷ [])))
+check-missing : Not (ok tt ≡ judged (tableOf (10 ∷ 0 ∷ 0 ∷ 0 ∷ 4 ∷ 0 ∷ 1 ∷ 0 ∷ 0 ∷ 0 ∷ [])))
 unfolding tableOf treesAt treeAt itemsAt recordAt headAt stepAt number
 check-missing e = let z : _≡_ {A = ℕ} 0 1 = cc in omega arith

@@ -2,9 +2,9 @@
 use mathlib.Core.Path.{_≡_, refl, sym, ap, _∙_}
 use mathlib.Core.List.{List, [], _∷_, _++_}
 use mathlib.Core.Bool.{true, false}
-use Prim.Native.Nat.{ℕ, zero, suc, _+_, _-_, _^_, _≤_, _<_}
+use Prim.Native.Nat.{ℕ, zero, suc, _+_, _-_, _≤_, _<_}
 use native.Mathlib.Omega.{arith}
-use lib.IntN.{ℤ, natAbs}
+use lib.IntN.{ℤ}
 use lib.ListN.{take, drop, getD, length, replicate, length-append, length-drop}
 use lib.Seq.{take-at}
 use borrow.Author.Tests.{le-ltb}
@@ -15,15 +15,16 @@ use Rattle.lists.proofs.Choice.{and-left, and-right, true-false}
 use Rattle.classes.specs.declared.Class.the-variants.{Other}
 use Rattle.classes.specs.Classes.{classOf, semicolon, symbolFirst, symbolOther, digitOf, literalByte}
 use Rattle.classes.proofs.Firsts.{first-other}
+use Rattle.wide.proofs.Decimals.{integer-low}
 use Rattle.wide.specs.Text.{integerText}
 use Rattle.lexer.specs.Tokens.{Kind, lparen, rparen, at-sign as at-token, symbol, int, token, Answer, is}
 use Rattle.lexer.specs.Literals.{radixOf}
 use Rattle.lexer.specs.Lexing.{Between, skip, symbolEnd, lexIn, nextToken}
 use Rattle.lexer.specs.Streams.{Series, ends, then, onward, tokensFrom}
 use Rattle.lexer.specs.BareTokens.{Bare, open-paren, close-paren, at-sign, name, number, bareOf, bareTokens}
-use Rattle.table.specs.Trees.{runsOn, isSymbol}
+use Rattle.table.specs.Trees.{runsOn, isSymbol, InRange}
 use Rattle.demands.proofs.HeldTokens.{At, next}
-use Rattle.demands.proofs.IntegerTokens.{spelt, spelt-some}
+use Rattle.demands.proofs.IntegerTokens.{spelt}
 
 -- what stands behind a tree: a space, LF or `)`, any of which ends a symbol and a literal
 pub data Sep : List ℕ → Type 0 where
@@ -57,7 +58,7 @@ symbol-token (b ∷ n) r p h k =
     let o : classOf b ≡ Other = first-byte b n h in
     rw (o, symbol-run n r (suc p) (unfold isSymbol in and-right (symbolFirst (classOf b)) (runsOn n) h) k, e) refl
 
-pub integer-token : (z : ℤ) (r : List ℕ) (p : ℕ) → natAbs z < 2 ^ 127 → Sep r → lexIn 0 Between (integerText z ++ r) p ≡ ok (is (token (int z) p (length (integerText z))))
+pub integer-token : (z : ℤ) (r : List ℕ) (p : ℕ) → InRange z → Sep r → lexIn 0 Between (integerText z ++ r) p ≡ ok (is (token (int z) p (length (integerText z))))
 unfolding literalByte digitOf radixOf
 integer-token z r p h (space {r = r'}) = spelt 32 r' refl refl z p h
 integer-token z r p h (line {r = r'}) = spelt 10 r' refl refl z p h
@@ -133,8 +134,8 @@ module _ (s : List ℕ) (limit : length s ≤ sourceLimit) where
       gives-token symbol n r (name n) y (some n h) (λ p. symbol-token n r p h k)
       (λ p e. ap (λ (l : List ℕ). name (take (length n) l)) e ∙ ap name (take-at n r (length n) refl)) g
 
-  pub gives-integer : (z : ℤ) (r : List ℕ) (y : Series Bare) → natAbs z < 2 ^ 127 → Sep r → Gives s y r → Gives s (then (number z) y) (integerText z ++ r)
-  gives-integer z r y h k g = gives-token (int z) (integerText z) r (number z) y (spelt-some z h) (λ p. integer-token z r p h k) (λ p e. refl) g
+  pub gives-integer : (z : ℤ) (r : List ℕ) (y : Series Bare) → InRange z → Sep r → Gives s y r → Gives s (then (number z) y) (integerText z ++ r)
+  gives-integer z r y h k g = gives-token (int z) (integerText z) r (number z) y (integer-low z) (λ p. integer-token z r p h k) (λ p e. refl) g
 
   pub gives-open : (l : List ℕ) (y : Series Bare) → Clear l → Gives s y l → Gives s (then open-paren y) (40 ∷ l)
   gives-open l y h g = gives-token lparen (40 ∷ []) l open-paren y (omega arith) (λ p. open-token l p h) (λ p e. refl) g

@@ -20,7 +20,7 @@ use Rattle.demands.specs.PrintThenFeed.{TextOf, WindowsThenFeed}
 use Rattle.demands.proofs.PrintThenFeed.{text-of}
 
 -- calls on a table that is refused leave the state fresh
-refused-calls : (t : List ℕ) (w n a : ℕ) (s : State) → isFresh (s .cursor .phase) ≡ true → tableOf true t ≡ refused n a → (bs : List (List ℕ)) → calls t w s bs .state ≡ s
+refused-calls : (t : List ℕ) (w n a : ℕ) (s : State) → isFresh (s .cursor .phase) ≡ true → tableOf t ≡ refused n a → (bs : List (List ℕ)) → calls t w s bs .state ≡ s
 unfolding calls
 refused-calls t w n a s e f [] = refl
 refused-calls t w n a s e f (b ∷ bs) =
@@ -32,9 +32,9 @@ none-left [] j k n e = refl
 none-left (b ∷ o) j k n e = let z : _≡_ {A = ℕ} 0 1 = cc in absurd (omega arith)
 
 pub windows-then-feed : WindowsThenFeed
-windows-then-feed t w j s bs b hb h e l = by (tableOf true t) refl
+windows-then-feed t w j s bs b hb h e l = by (tableOf t) refl
   where
-    by : (y : Result (Found Trees)) → tableOf true t ≡ y → TextOf t (calls t w s bs .out)
+    by : (y : Result (Found Trees)) → tableOf t ≡ y → TextOf t (calls t w s bs .out)
     by (refused n a) f =
         let r : fillOf t w s b .answer ≡ ok (end j) = subst (λ (y : State). fillOf t w y b .answer ≡ ok (end j)) (refused-calls t w n a s (h .fresh) f bs) e in
         let g : refused n a ≡ ok (end j) = sym (ap (λ (c : Call). c .answer) (windows-refused t w n a s b (h .fresh) f)) ∙ r in

@@ -2,7 +2,7 @@
 use mathlib.Core.Path.{refl}
 use Rattle.classes.specs.Classes.{classOf, digitOf, literalByte}
 use Rattle.wide.specs.Value.{val, grown, integerOf}
-use Rattle.wide.specs.Text.{digits, integerText}
+use Rattle.wide.specs.Text.{digits, isLowest, integerText}
 use Rattle.wide.specs.Bytes.{le, number}
 use Rattle.lexer.specs.Literals.{taken, grow, reading as digitsRead, literalEnd, radixOf, concluded, unsignedIn}
 use Rattle.lexer.specs.Lexing.{skip, symbolEnd, lexIn, nextToken}
@@ -22,5 +22,5 @@ use Rattle.windows.specs.Filling.{run, fillOf, calls}
 use Rattle.demands.specs.Worked.{cases, Worked}
 
 pub worked : Worked
-unfolding cases tokensFrom nextToken lexIn skip symbolEnd classOf literalByte digitOf taken grow digitsRead literalEnd radixOf concluded unsignedIn val grown integerOf reading readInto fileOf readItems readTree records record-of headAt le number printing printedInto tableOf treesAt treeAt itemsAt recordAt stepAt isSymbol runsOn pageFrom lay cost breakColumn fitsIn digits integerText shares upTo looksIn looked pageLooked entryAt fitsFrom fitsAt putOf nextOf run fillOf calls
+unfolding cases tokensFrom nextToken lexIn skip symbolEnd classOf literalByte digitOf taken grow digitsRead literalEnd radixOf concluded unsignedIn val grown integerOf reading readInto fileOf readItems readTree records record-of headAt le number printing printedInto tableOf treesAt treeAt itemsAt recordAt stepAt isSymbol runsOn pageFrom lay cost breakColumn fitsIn digits isLowest integerText shares upTo looksIn looked pageLooked entryAt fitsFrom fitsAt putOf nextOf run fillOf calls
 worked = refl

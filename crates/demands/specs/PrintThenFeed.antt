@@ -1,16 +1,19 @@
--- What is printed, whole or through windows, cut anywhere, fed and closed, gives the tokens of what was printed: THEOREMS print-then-feed, windows-then-feed.
+-- What is printed (document 02, 6/12), and that it, whole or through windows, cut anywhere, fed and closed, gives the tokens of what was printed: THEOREMS good-printed, read-printed, print-then-feed, windows-then-feed.
 use mathlib.Core.Path.{_≡_}
 use mathlib.Core.List.{List}
 use Prim.Native.Nat.{ℕ, _+_, _*_, _≤_, _<_}
 use lib.ListN.{length, take}
-use Rattle.refusals.specs.Numbers.{sourceLimit, depthLimit}
+use Rattle.refusals.specs.Numbers.{sourceLimit, tableLimit, depthLimit}
 use Rattle.refusals.specs.Result.{ok}
 use Rattle.wide.specs.Bytes.{Bytes}
 use Rattle.lexer.specs.Streams.{ends}
 use Rattle.lexer.specs.BareTokens.{bareTokens}
 use Rattle.feeder.specs.Feeding.{freshState}
 use Rattle.table.specs.Trees.{Trees, treesTokens, Goods, recordsOf}
-use Rattle.printer.specs.Printing.{text, printing, printedInto}
+use Rattle.reader.specs.Grammar.{fileOf}
+use Rattle.printer.specs.Layout.{page}
+use Rattle.printer.specs.Looking.{pageLooked}
+use Rattle.printer.specs.Printing.{text, roomed, printing, printedInto}
 use Rattle.windows.specs.declared.State.{State}
 use Rattle.windows.specs.Filling.{end, fillOf, calls}
 use Rattle.windows.specs.Joined.{Begins}
@@ -26,6 +29,14 @@ pub record TextOf (t o : List ℕ) : Type 0 where
   pub good : Goods trees depthLimit
   pub is : t ≡ recordsOf trees
   pub yields : Yields o trees
+
+-- the table of good trees, whichever integers they hold, is printed where there is room for the text; 18 is all that is refused of it
+abbrev pub GoodPrinted : Type 0
+GoodPrinted = (xs : Trees) (w k : ℕ) → Goods xs depthLimit → length (recordsOf xs) ≤ tableLimit → printing (recordsOf xs) w k ≡ roomed (page xs w) (pageLooked xs w) k
+
+-- and so is whatever was read
+abbrev pub ReadPrinted : Type 0
+ReadPrinted = (s : List ℕ) (xs : Trees) (w k : ℕ) → fileOf s ≡ ok xs → printing (recordsOf xs) w k ≡ roomed (page xs w) (pageLooked xs w) k
 
 -- if a table is printed at a width, in m bytes of the lent buffer, and a source may be as long, then the table holds good trees, and these m
 -- bytes yield exactly their tokens

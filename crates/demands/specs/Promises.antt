@@ -2,7 +2,6 @@
 -- `Refuted`, `RefutedCalls` and `RefutedDoors` is refuted of these; settings have `PromisesSettings`. The arguments are `a`, in their order, the result is `x`, and `s` is what is lent as it is at the end.
 use Prim.Native.Nat.{_+_, _*_, _-_, _≤_}
 use mathlib.Core.Path.{_≡_}
-use mathlib.Core.Bool.{false}
 use lib.ListN.{length, getD, drop}
 use lib.IntN.{pos}
 use mir.Syntax.{w64}
@@ -164,10 +163,10 @@ pub record Promises : Type 1 where
   pub records·put : (κs : _) (a : _) (x : _) (s : _) → records-put.Post κs a x s ≡ (now (s .1 .1 .0) ≡ fitted (record-of (a .0) (now (a .1 .0))) (now (a .1 .1 .0)))
   pub table·record-at : (κs : _) (a : _) (x : _) (s : _) → table-record-at.Post κs a x s ≡ (x ≡ recordAt (now (a .0)) (a .1 .0))
   pub table·is-symbol : (κs : _) (a : _) (x : _) (s : _) → table-is-symbol.Post κs a x s ≡ (x ≡ isSymbol (now (a .0)))
-  pub table·step-at : (κs : _) (a : _) (x : _) (s : _) → table-step-at.Post κs a x s ≡ (x ≡ stepAt (now (a .0)) (a .1 .1 .1 .0) (a .1 .0) (a .1 .1 .0))
+  pub table·step-at : (κs : _) (a : _) (x : _) (s : _) → table-step-at.Post κs a x s ≡ (x ≡ stepAt (now (a .0)) (a .1 .0) (a .1 .1 .0))
   pub table·past-symbol : (κs : _) (a : _) (x : _) (s : _) → table-past-symbol.Post κs a x s ≡ (x ≡ pastSymbol (now (a .0)) (a .1 .0))
-  pub table·past : (κs : _) (a : _) (x : _) (s : _) → table-past.Post κs a x s ≡ (x ≡ pastOf (a .1 .0) (treeAt (now (a .0)) false depthLimit (a .1 .0)))
-  pub table·check : (κs : _) (a : _) (x : _) (s : _) → table-check.Post κs a x s ≡ (verdictOf x ≡ judged (tableOf (a .1 .0) (now (a .0))))
+  pub table·past : (κs : _) (a : _) (x : _) (s : _) → table-past.Post κs a x s ≡ (x ≡ pastOf (a .1 .0) (treeAt (now (a .0)) depthLimit (a .1 .0)))
+  pub table·check : (κs : _) (a : _) (x : _) (s : _) → table-check.Post κs a x s ≡ (verdictOf x ≡ judged (tableOf (now (a .0))))
   pub reader·read : (κs : _) (a : _) (x : _) (s : _) → reader-read.Post κs a x s ≡ ((readOf x ≡ readingOf (now (a .0)) (length (now (a .1 .0)))) × (now (s .1 .0) ≡ readInto (now (a .0)) (now (a .1 .0))))
   pub printer·cost·break-column : (κs : _) (a : _) (x : _) (s : _) → printer-cost-break-column.Post κs a x s ≡ (x ≡ breakColumn (a .0))
   pub printer·cost·fits-in : (κs : _) (a : _) (x : _) (s : _) → printer-cost-fits-in.Post κs a x s ≡ (x ≡ fitsIn (a .0) (a .1 .0) (a .1 .1 .0))

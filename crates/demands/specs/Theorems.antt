@@ -1,6 +1,5 @@
 -- All theorems, in the order of the firm's demands: what each says, and the file that has its parts. They are proved in proofs/Theorems.
 use mathlib.Core.Path.{_≡_}
-use mathlib.Core.Bool.{Bool, true}
 use mathlib.Core.List.{List}
 use Prim.Native.Nat.{ℕ, _≤_}
 use lib.ListN.{length}
@@ -10,9 +9,8 @@ use Rattle.wide.specs.Bytes.{Bytes}
 use Rattle.lexer.specs.DigitPlaces.{DigitNamed}
 use Rattle.table.specs.Trees.{Trees, Goods, recordsOf}
 use Rattle.table.specs.Decoding.{found, tableOf}
-use Rattle.table.specs.Printable.{Printables}
 use Rattle.table.specs.Accepted.{Accepted}
-use Rattle.table.specs.Faults.{FaultPlaced}
+use Rattle.table.specs.Faults.{FaultPlaced, FaultNumbered}
 use Rattle.reader.specs.Promised.{ReadGood, ReadTokens, ReadAccepts}
 use Rattle.printer.specs.Looking.{LookedBound}
 use Rattle.windows.specs.AnyCall.{GivenWithin, NoRoom, EndStays, RefusedAtFirst, NeverRoom}
@@ -28,7 +26,7 @@ use Rattle.demands.specs.WrongPrograms.{WrongPrograms}
 use Rattle.demands.specs.Driver.{CutAnywhere}
 use Rattle.demands.specs.DriverWords.{PackedStates, CutAnywhereWords}
 use Rattle.demands.specs.Rules.{Rules}
-use Rattle.demands.specs.PrintThenFeed.{PrintThenFeed, WindowsThenFeed}
+use Rattle.demands.specs.PrintThenFeed.{GoodPrinted, ReadPrinted, PrintThenFeed, WindowsThenFeed}
 
 pub record Theorems : Type 0 where
   -- Demand 1: every call ends with a defined answer. That it ends and what it answers is each function's contract; that the contract leaves nothing open:
@@ -41,14 +39,19 @@ pub record Theorems : Type 0 where
   -- the digit that a literal is refused for is the first such one from the left; 22 and no other fault of a table is told at its length
   pub digit-named : DigitNamed
   pub fault-placed : FaultPlaced
-  -- a table that is accepted is the records of good trees, and the records of good trees are accepted; w says that the table is to be printed
-  pub sound : (w : Bool) (t : List ℕ) (xs : Trees) (q : ℕ) → Bytes t → tableOf w t ≡ ok (found xs q) → Accepted w t xs q
-  pub complete : (w : Bool) (xs : Trees) → Goods xs depthLimit → (w ≡ true → Printables xs) → length (recordsOf xs) ≤ tableLimit
-      → tableOf w (recordsOf xs) ≡ ok (found xs (length (recordsOf xs)))
+  -- a table is refused for its length, or with 15, 20, 21, 13, 16 or 22
+  pub fault-numbered : FaultNumbered
+  -- a table that is accepted is the records of good trees, and the records of good trees are accepted
+  pub sound : (t : List ℕ) (xs : Trees) (q : ℕ) → Bytes t → tableOf t ≡ ok (found xs q) → Accepted t xs q
+  pub complete : (xs : Trees) → Goods xs depthLimit → length (recordsOf xs) ≤ tableLimit
+      → tableOf (recordsOf xs) ≡ ok (found xs (length (recordsOf xs)))
   -- what is read is a good table; its tokens are the source's; whatever is the text of trees within the limits is read
   pub read-good : ReadGood
   pub read-tokens : ReadTokens
   pub read-accepts : ReadAccepts
+  -- good trees are printed, whichever integers they hold, and so is whatever was read; the only refusal is for room
+  pub good-printed : GoodPrinted
+  pub read-printed : ReadPrinted
   -- the fits test looks at no more than 64 times the records of the table
   pub looked-bound : LookedBound
   -- the windows of a table, whatever their lengths, joined are its text, and then the end is answered, with the number of records that the fits test looks at; what is refused is refused at the first call

@@ -78,6 +78,16 @@ ruleTable =
     10 ∷ 0 ∷ 0 ∷ 0 ∷ 4 ∷ 0 ∷ 3 ∷ 0 ∷ 0 ∷ 0 ∷ 10 ∷ 0 ∷ 0 ∷ 0 ∷ 1 ∷ 0 ∷ 114 ∷ 117 ∷ 108 ∷ 101 ∷ 10 ∷ 0 ∷ 0 ∷ 0 ∷ 4 ∷ 0 ∷ 2 ∷ 0 ∷ 0 ∷ 0 ∷ 7 ∷ 0 ∷ 0 ∷ 0 ∷ 1 ∷ 0 ∷ 97 ∷ 7 ∷ 0 ∷ 0 ∷ 0 ∷ 1 ∷ 0 ∷ 98 ∷ 7 ∷ 0 ∷ 0 ∷ 0
     ∷ 1 ∷ 0 ∷ 99 ∷ []
 
+-- -2^127 as document 02, 6/12 writes it, and in a list; its table
+abbrev lowest : List ℕ
+lowest = 48 ∷ 120 ∷ 56 ∷ replicate 31 48
+
+abbrev listed : List ℕ
+listed = 40 ∷ (lowest ++ (41 ∷ []))
+
+abbrev lowestTable : List ℕ
+lowestTable = 22 ∷ 0 ∷ 0 ∷ 0 ∷ 2 ∷ 0 ∷ (replicate 15 0 ++ (128 ∷ []))
+
 unfoldable pub cases : List Case
 cases =
     -- the empty source, `(;)`, `(;(;;);)x`
@@ -123,6 +133,12 @@ cases =
     (parts (ok (part 15) ∷ []) (40 ∷ 114 ∷ 117 ∷ 108 ∷ 101 ∷ 32 ∷ 40 ∷ 97 ∷ 32 ∷ 98 ∷ 41 ∷ 32 ∷ 99 ∷ 41 ∷ 10 ∷ []))
     ∷ case (windowed [] 0 (0 ∷ 1 ∷ [])) (parts (ok (end 0) ∷ ok (end 0) ∷ []) [])
     ∷ case (windowed (6 ∷ 0 ∷ 0 ∷ 0 ∷ 5 ∷ 0 ∷ []) 0 (0 ∷ 1 ∷ [])) (parts (refused 20 0 ∷ refused 20 0 ∷ []) [])
+    -- document 02, 6/12: -2^127 prints as `0x8` and 31 zeros at any width; its cost is 34, so that in a list it fits in 36 and not in 35; through windows of 3, 40 and 1 bytes
+    ∷ case (read lowest) (bytes (ok lowestTable))
+    ∷ case (printed lowest 0) (paged (ok (page (lowest ++ (10 ∷ [])) 0)))
+    ∷ case (printed listed 36) (paged (ok (page (listed ++ (10 ∷ [])) 2)))
+    ∷ case (printed listed 35) (paged (ok (page (40 ∷ (lowest ++ (10 ∷ 41 ∷ 10 ∷ []))) 2)))
+    ∷ case (windowed lowestTable 0 (3 ∷ 40 ∷ 1 ∷ [])) (parts (ok (part 3) ∷ ok (part 32) ∷ ok (end 0) ∷ []) (lowest ++ (10 ∷ [])))
     ∷ []
 
 abbrev pub Worked : Type 0

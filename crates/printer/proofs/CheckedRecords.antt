@@ -8,7 +8,7 @@ use lib.IntN.{ℤ}
 use lib.ListN.{length}
 use lib.Dec.{ltb}
 use borrow.Author.Tests.{le-leb}
-use Rattle.refusals.specs.Numbers.{tooDeep, badSymbol, lowest}
+use Rattle.refusals.specs.Numbers.{tooDeep, badSymbol}
 use Rattle.refusals.specs.Result.{Result, ok, refused}
 use Rattle.wide.specs.Bytes.{Bytes, numberIn, integerAt, wideIn}
 use Rattle.table.specs.Trees.{Tree, Trees, symbol, integer, binding, list, isSymbol}
@@ -17,7 +17,7 @@ use Rattle.table.specs.declared.Record.the-variants.{Symbol, Integer, Binding, 
 use Rattle.records.specs.Records.{headLen, kindAt, payload}
 use Rattle.table.specs.Kinds.{symbolKind, integerLen, listLen}
 use Rattle.table.specs.Records.{recordAt}
-use Rattle.table.specs.Decoding.{Found, found, andThen, itemsAt, isLowest, stepOf, stepAt, ofStep, treeAt}
+use Rattle.table.specs.Decoding.{Found, found, andThen, itemsAt, stepOf, stepAt, ofStep, treeAt}
 use Rattle.table.specs.declared.Step.{Step}
 use Rattle.table.specs.declared.Step.the-variants as step
 use Rattle.table.proofs.Reading.{RecordAt, record-in, read-in, symbol-in, StepIn, tree-of}
@@ -46,13 +46,9 @@ module _ (t : List ℕ) (at : ℕ) (f : ℕ → Result (Found Tree)) where
   right-then true s n r = refl
   right-then false s n r = absurd r
 
-  right-else : (b : Bool) (s : Step) (n : ℕ) → Right (ofStep t at f (cond b (step.Fault n) s)) → cond b (step.Fault n) s ≡ s
-  right-else true s n r = absurd r
-  right-else false s n r = refl
-
-  plain-is : (o : Bool) (x : Record) → Right (ofStep t at f (stepOf t true at o x)) → stepOf t true at o x ≡ plain x
+  plain-is : (o : Bool) (x : Record) → Right (ofStep t at f (stepOf t at o x)) → stepOf t at o x ≡ plain x
   plain-is o (Symbol len) r = right-then (isSymbol (payload t at len)) (step.Symbol len) badSymbol r
-  plain-is o Integer r = right-else (isLowest t at) step.Integer lowest r
+  plain-is o Integer r = refl
   plain-is true (Binding len) r = right-then (isSymbol (payload t at len)) (step.Binding len) badSymbol r
   plain-is false (Binding len) r = absurd r
   plain-is o (ListOf n) r = right-then o (step.List n) tooDeep r
@@ -69,36 +65,36 @@ made : {A : Type 0} (d : ℕ) (make : A → Tree) (part : Result (Found A) → A
 made {A} d make part f y (ok (found x q)) h r e = record { deeper = h; right = tt; is = e ∙ ap (λ (v : A). ok (found (make v) q)) (sym (f x q)) }
 made d make part f y (refused n a) h r e = absurd r
 
-module _ (t : List ℕ) (d at : ℕ) (x : Record) (r : Right (treeAt t true d at)) (e : x ≡ recordAt t at) where
-  plainly : (y : Record) → x ≡ y → stepAt t true at (ltb 0 d) ≡ plain y
+module _ (t : List ℕ) (d at : ℕ) (x : Record) (r : Right (treeAt t d at)) (e : x ≡ recordAt t at) where
+  plainly : (y : Record) → x ≡ y → stepAt t at (ltb 0 d) ≡ plain y
   unfolding stepAt
   plainly y e′ =
       let k : recordAt t at ≡ y = sym e ∙ e′ in
-      ap (stepOf t true at (ltb 0 d)) k ∙ plain-is t at (treeAt t true (d - 1)) (ltb 0 d) y (subst Right (tree-of t true d at y (sym k)) r)
+      ap (stepOf t at (ltb 0 d)) k ∙ plain-is t at (treeAt t (d - 1)) (ltb 0 d) y (subst Right (tree-of t d at y (sym k)) r)
 
-  is-plain : (y : Record) → x ≡ y → treeAt t true d at ≡ ofStep t at (treeAt t true (d - 1)) (plain y)
-  is-plain y e′ = step-tree t true d at (stepAt t true at (ltb 0 d)) (plain y) refl (plainly y e′)
+  is-plain : (y : Record) → x ≡ y → treeAt t d at ≡ ofStep t at (treeAt t (d - 1)) (plain y)
+  is-plain y e′ = step-tree t d at (stepAt t at (ltb 0 d)) (plain y) refl (plainly y e′)
 
-  plain-in : (y : Record) → x ≡ y → StepIn t true d at (plain y)
-  plain-in y e′ = step-in t true d at (stepAt t true at (ltb 0 d)) (plain y) refl (plainly y e′)
+  plain-in : (y : Record) → x ≡ y → StepIn t d at (plain y)
+  plain-in y e′ = step-in t d at (stepAt t at (ltb 0 d)) (plain y) refl (plainly y e′)
 
   pub bad-found : (n : ℕ) → x ≡ Bad n → ⊥
   bad-found n e′ = subst Right (is-plain (Bad n) e′) r
 
-  pub symbol-found : (len : ℕ) → x ≡ Symbol len → treeAt t true d at ≡ ok (found (symbol (payload t at len)) (at + len))
+  pub symbol-found : (len : ℕ) → x ≡ Symbol len → treeAt t d at ≡ ok (found (symbol (payload t at len)) (at + len))
   symbol-found len e′ = is-plain (Symbol len) e′
 
-  pub integer-found : x ≡ Integer → treeAt t true d at ≡ ok (found (integer (integerAt t (at + headLen))) (at + integerLen))
+  pub integer-found : x ≡ Integer → treeAt t d at ≡ ok (found (integer (integerAt t (at + headLen))) (at + integerLen))
   integer-found e′ = is-plain Integer e′
 
-  pub binding-found : (len : ℕ) → x ≡ Binding len → Made d (binding (payload t at len)) treeOf (treeAt t true d at) (treeAt t true (d - 1) (at + len))
+  pub binding-found : (len : ℕ) → x ≡ Binding len → Made d (binding (payload t at len)) treeOf (treeAt t d at) (treeAt t (d - 1) (at + len))
   binding-found len e′ =
-      made d (binding (payload t at len)) treeOf (λ y q. refl) (treeAt t true d at) (treeAt t true (d - 1) (at + len)) (plain-in (Binding len) e′ .2)
+      made d (binding (payload t at len)) treeOf (λ y q. refl) (treeAt t d at) (treeAt t (d - 1) (at + len)) (plain-in (Binding len) e′ .2)
       (subst Right (is-plain (Binding len) e′) r) (is-plain (Binding len) e′)
 
-  pub list-found : (n : ℕ) → x ≡ ListOf n → Made d list treesOf (treeAt t true d at) (itemsAt (treeAt t true (d - 1)) n (at + listLen))
+  pub list-found : (n : ℕ) → x ≡ ListOf n → Made d list treesOf (treeAt t d at) (itemsAt (treeAt t (d - 1)) n (at + listLen))
   list-found n e′ =
-      made d list treesOf (λ y q. refl) (treeAt t true d at) (itemsAt (treeAt t true (d - 1)) n (at + listLen)) (plain-in (ListOf n) e′ .1)
+      made d list treesOf (λ y q. refl) (treeAt t d at) (itemsAt (treeAt t (d - 1)) n (at + listLen)) (plain-in (ListOf n) e′ .1)
       (subst Right (is-plain (ListOf n) e′) r) (is-plain (ListOf n) e′)
 
 pub right-is : (y : Result (Found Tree)) → Right y → y ≡ ok (found (treeOf y) (nextOf y))
@@ -106,8 +102,8 @@ right-is (ok (found x q)) r = refl
 right-is (refused n a) r = absurd r
 
 -- a found tree ends past its place and within the table
-pub found-end : (t : List ℕ) (d p : ℕ) → p ≤ length t → Right (treeAt t true d p) → (p < nextOf (treeAt t true d p)) × (nextOf (treeAt t true d p) ≤ length t)
-found-end t d p h r = found-in t true d p _ _ h (right-is (treeAt t true d p) r)
+pub found-end : (t : List ℕ) (d p : ℕ) → p ≤ length t → Right (treeAt t d p) → (p < nextOf (treeAt t d p)) × (nextOf (treeAt t d p) ≤ length t)
+found-end t d p h r = found-in t d p _ _ h (right-is (treeAt t d p) r)
 
 -- the items of a list that is right are those done, and some that are left: what holds of every such list holds of them
 pub items-left : {f : ℕ → Result (Found Tree)} {n at i p : ℕ} (g : Gone f n at i p) → Right (itemsAt f n at) → (P : Trees → Type 0) → ((ys : Trees) → P (g .pre ys)) → P (treesOf (itemsAt f n at))
@@ -149,9 +145,9 @@ module _ (t : List ℕ) (at k : ℕ) (e : k ≡ numberIn 2 t (at + 4)) where
 
 -- what stands at p where `symbol_at` said that a symbol of len bytes does
 abbrev pub Named : List ℕ → ℕ → ℕ → ℕ → Type 0
-Named t d p len = (headLen ≤ len) × (p + len ≤ length t) × (treeAt t true d p ≡ ok (found (symbol (payload t p len)) (p + len)))
+Named t d p len = (headLen ≤ len) × (p + len ≤ length t) × (treeAt t d p ≡ ok (found (symbol (payload t p len)) (p + len)))
 
-pub symbol-named : (t : List ℕ) (d p len : ℕ) → p ≤ length t → Right (treeAt t true d p) → Told (recordAt t p) len → 0 < len → Named t d p len
+pub symbol-named : (t : List ℕ) (d p len : ℕ) → p ≤ length t → Right (treeAt t d p) → Told (recordAt t p) len → 0 < len → Named t d p len
 symbol-named t d p len hp r g l = by (recordAt t p) refl g
   where
     by : (x : Record) → x ≡ recordAt t p → Told x len → Named t d p len

@@ -257,11 +257,11 @@ module _ (t : List ℕ) (hb : Bytes t) where
       by false = refl
 
   -- and so where one was found
-  pub fits-right : (d p w c : ℕ) (z : Tested) → z ≡ fitsAt t p w c → p ≤ length t → Right (treeAt t true d p)
-      → (z .fits ≡ fits w c (treeOf (treeAt t true d p))) × (z .looked ≡ looks w c (treeOf (treeAt t true d p)))
-  fits-right d p w c z ez hp r = by (treeAt t true d p) (tree-holds t hb true d p hp) r
+  pub fits-right : (d p w c : ℕ) (z : Tested) → z ≡ fitsAt t p w c → p ≤ length t → Right (treeAt t d p)
+      → (z .fits ≡ fits w c (treeOf (treeAt t d p))) × (z .looked ≡ looks w c (treeOf (treeAt t d p)))
+  fits-right d p w c z ez hp r = by (treeAt t d p) (tree-holds t hb d p hp) r
     where
-      by : (y : Result (Found Tree)) → Holds t true d p y → Right y → (z .fits ≡ fits w c (treeOf y)) × (z .looked ≡ looks w c (treeOf y))
+      by : (y : Result (Found Tree)) → Holds t d p y → Right y → (z .fits ≡ fits w c (treeOf y)) × (z .looked ≡ looks w c (treeOf y))
       by (refused n a) h r = absurd r
       by (ok (found x q)) h r =
           let e = ez ∙ fits-stands x p w c (good-sized x d (h .2)) hp (h .0) in

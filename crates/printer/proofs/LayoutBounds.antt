@@ -83,23 +83,23 @@ mutual
       (omega (arith, gap-len first m i c (omega arith), lay-len x d m w j c1 (g .0) (omega (arith, inner-le first m i)), items-len xs d false m w i c2 (g .1) h))
 
 -- a tree that is found in a table
-pub found-len : (t : List ℕ) (d p q : ℕ) (x : Tree) (m : Wrapping) (w i c : ℕ) → Bytes t → p ≤ length t → i + d ≤ depthLimit → treeAt t true d p ≡ ok (found x q)
+pub found-len : (t : List ℕ) (d p q : ℕ) (x : Tree) (m : Wrapping) (w i c : ℕ) → Bytes t → p ≤ length t → i + d ≤ depthLimit → treeAt t d p ≡ ok (found x q)
     → length (bytes (lay x m w i c)) + 300 ≤ 128 * (q - p)
 found-len t d p q x m w i c hb hp h e =
-    let k = subst (Holds t true d p) e (tree-holds t hb true d p hp) in
+    let k = subst (Holds t d p) e (tree-holds t hb d p hp) in
     let z : q - p ≡ length (records x) = omega (arith, k .1) in
     rw z (lay-len x d m w i c (k .2) h)
 
-pub line-len : (t : List ℕ) (d p q : ℕ) (x : Tree) → Bytes t → p ≤ length t → d ≤ depthLimit → treeAt t true d p ≡ ok (found x q) → length (line x) + 300 ≤ 128 * (q - p)
+pub line-len : (t : List ℕ) (d p q : ℕ) (x : Tree) → Bytes t → p ≤ length t → d ≤ depthLimit → treeAt t d p ≡ ok (found x q) → length (line x) + 300 ≤ 128 * (q - p)
 line-len t d p q x hb hp h e = rw (sym (line-is x 0 0 0)) (found-len t d p q x SingleLine 0 0 0 hb hp (omega arith) e)
 
 -- the same of what a table is right in, and that it goes forward
-pub right-len : (t : List ℕ) (d p : ℕ) (m : Wrapping) (w i c : ℕ) → Bytes t → p ≤ length t → i + d ≤ depthLimit → Right (treeAt t true d p)
-    → (length (bytes (lay (treeOf (treeAt t true d p)) m w i c)) + 300 ≤ 128 * (nextOf (treeAt t true d p) - p)) × (p < nextOf (treeAt t true d p)) × (nextOf (treeAt t true d p) ≤ length t)
+pub right-len : (t : List ℕ) (d p : ℕ) (m : Wrapping) (w i c : ℕ) → Bytes t → p ≤ length t → i + d ≤ depthLimit → Right (treeAt t d p)
+    → (length (bytes (lay (treeOf (treeAt t d p)) m w i c)) + 300 ≤ 128 * (nextOf (treeAt t d p) - p)) × (p < nextOf (treeAt t d p)) × (nextOf (treeAt t d p) ≤ length t)
 right-len t d p m w i c hb hp h r =
-    let e = right-is (treeAt t true d p) r in
+    let e = right-is (treeAt t d p) r in
     let f = found-end t d p hp r in
     (found-len t d p _ _ m w i c hb hp h e, f .0, f .1)
 
-pub right-line : (t : List ℕ) (d p : ℕ) → Bytes t → p ≤ length t → d ≤ depthLimit → Right (treeAt t true d p) → length (line (treeOf (treeAt t true d p))) ≤ 128 * length t
-right-line t d p hb hp h r = omega (arith, line-len t d p _ _ hb hp h (right-is (treeAt t true d p) r), found-end t d p hp r)
+pub right-line : (t : List ℕ) (d p : ℕ) → Bytes t → p ≤ length t → d ≤ depthLimit → Right (treeAt t d p) → length (line (treeOf (treeAt t d p))) ≤ 128 * length t
+right-line t d p hb hp h r = omega (arith, line-len t d p _ _ hb hp h (right-is (treeAt t d p) r), found-end t d p hp r)

@@ -105,17 +105,17 @@ module _ (d : ℕ) (y : Result (Found Tree)) (z : Result (Found Trees)) (w i c k
 
 -- the n items behind the record at `at`
 abbrev all : List ℕ → ℕ → ℕ → ℕ → Result (Found Trees)
-all t at d n = itemsAt (treeAt t true (d - 1)) n (at + listLen)
+all t at d n = itemsAt (treeAt t (d - 1)) n (at + listLen)
 
 module _ (t : List ℕ) (at d n w ind c : ℕ) where
   pub record Counting (j k p i : ℕ) : Type 0 where
-    gone : Gone (treeAt t true (d - 1)) n (at + listLen) i p
+    gone : Gone (treeAt t (d - 1)) n (at + listLen) i p
     count : (ys : Trees) → j + lookedOf (gone .pre ys) true Wrap w ind c ≡ k + lookedOf ys (eqb i 0) Wrap w ind c
     right : Right (all t at d n)
     few : j + lookedOf (treesOf (all t at d n)) true Wrap w ind c ≤ 4294967296
 
   pub counting-begin : (j : ℕ) → Right (all t at d n) → j + lookedOf (treesOf (all t at d n)) true Wrap w ind c ≤ 4294967296 → Counting j j (at + listLen) 0
-  counting-begin j r l = record { gone = gone-begin (treeAt t true (d - 1)) n (at + listLen); count = λ ys. refl; right = r; few = l }
+  counting-begin j r l = record { gone = gone-begin (treeAt t (d - 1)) n (at + listLen); count = λ ys. refl; right = r; few = l }
 
 module _ {t : List ℕ} {at d n w ind c j k p i : ℕ} (h : Counting t at d n w ind c j k p i) where
   -- what is counted is no more than the whole
@@ -126,17 +126,17 @@ module _ {t : List ℕ} {at d n w ind c j k p i : ℕ} (h : Counting t at d n w 
       omega (arith, l, h .few)
 
   -- one item more, at the indent and the column that it has
-  module _ (l : i < n) (u v : ℕ) (eu : u ≡ inner (eqb i 0) Wrap ind) (ev : v ≡ column (gap (eqb i 0) Wrap ind c)) (r : Right (treeAt t true (d - 1) p)) (q x z : ℕ)
-      (eq : q ≡ nextOf (treeAt t true (d - 1) p)) (ex : x ≡ seen w u v (treeOf (treeAt t true (d - 1) p))) (ez : z ≡ k + x) where
+  module _ (l : i < n) (u v : ℕ) (eu : u ≡ inner (eqb i 0) Wrap ind) (ev : v ≡ column (gap (eqb i 0) Wrap ind c)) (r : Right (treeAt t (d - 1) p)) (q x z : ℕ)
+      (eq : q ≡ nextOf (treeAt t (d - 1) p)) (ex : x ≡ seen w u v (treeOf (treeAt t (d - 1) p))) (ez : z ≡ k + x) where
     pub counting-step : Counting t at d n w ind c j z q (i + 1)
     counting-step =
-        let y : Tree = treeOf (treeAt t true (d - 1) p) in
+        let y : Tree = treeOf (treeAt t (d - 1) p) in
         let later : eqb (i + 1) 0 ≡ false = ne-eqb (i + 1) 0 (λ e. omega arith) in
         let es : seen w (inner (eqb i 0) Wrap ind) (column (gap (eqb i 0) Wrap ind c)) y ≡ x =
         ap (λ (a : ℕ). seen w a (column (gap (eqb i 0) Wrap ind c)) y) (sym eu) ∙ ap (λ (b : ℕ). seen w u b y) (sym ev) ∙ sym ex in
         rw (eq, ez)
         record {
-          gone = gone-item (treeAt t true (d - 1)) n (at + listLen) i p (h .gone) _ y l (right-is (treeAt t true (d - 1) p) r);
+          gone = gone-item (treeAt t (d - 1)) n (at + listLen) i p (h .gone) _ y l (right-is (treeAt t (d - 1) p) r);
           count =
               λ ys.
               h .count (more y ys)
@@ -148,7 +148,7 @@ module _ {t : List ℕ} {at d n w ind c j k p i : ℕ} (h : Counting t at d n w 
 
   pub counting-end : n ≤ i → k ≡ j + lookedOf (treesOf (all t at d n)) true Wrap w ind c
   counting-end l =
-      let e = gone-end (treeAt t true (d - 1)) n (at + listLen) i p (h .gone) l in
+      let e = gone-end (treeAt t (d - 1)) n (at + listLen) i p (h .gone) l in
       let f : j + lookedOf (treesOf (all t at d n)) true Wrap w ind c ≡ k + lookedOf none (eqb i 0) Wrap w ind c =
       ap (λ (v : Result (Found Trees)). j + lookedOf (treesOf v) true Wrap w ind c) e ∙ h .count none in
       omega (arith, f, none-seen (eqb i 0) w ind c)

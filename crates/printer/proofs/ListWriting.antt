@@ -49,14 +49,14 @@ module _ (text text′ : Tree → List ℕ) (nm : List ℕ) (d : ℕ) (y z : Res
 module _ (t : List ℕ) (at d n : ℕ) (m : Manner) (c : ℕ) where
   -- the n items behind the record at `at`, and the list of them
   abbrev all : Result (Found Trees)
-  all = itemsAt (treeAt t true (d - 1)) n (at + listLen)
+  all = itemsAt (treeAt t (d - 1)) n (at + listLen)
 
   abbrev pub whole : List ℕ
   whole = 40 ∷ rest m (treesOf all) true
 
   -- len bytes o are done, and the items from the i-th on are left; b₀ held the parenthesis, in whatever room e that was
   pub record Filling (b₀ b : List ℕ) (len p i : ℕ) : Type 0 where
-    pub gone : Gone (treeAt t true (d - 1)) n (at + listLen) i p
+    pub gone : Gone (treeAt t (d - 1)) n (at + listLen) i p
     pub o : List ℕ
     pub size : length o ≡ len
     pub some : 0 < len
@@ -68,12 +68,12 @@ module _ (t : List ℕ) (at d n : ℕ) (m : Manner) (c : ℕ) where
     pub small : c + length whole ≤ 4294967296
     pub kept : length b ≡ length b₀
 
-  pub filling-begin : (text : Tree → List ℕ) → text (list (treesOf all)) ≡ whole → (b₀ : List ℕ) (len : ℕ) → Made d list treesOf (treeAt t true d at) all
-      → c + length (text (treeOf (treeAt t true d at))) ≤ 4294967296 → at + listLen ≤ length t → len ≡ 1 → Filling b₀ b₀ len (at + listLen) 0
+  pub filling-begin : (text : Tree → List ℕ) → text (list (treesOf all)) ≡ whole → (b₀ : List ℕ) (len : ℕ) → Made d list treesOf (treeAt t d at) all
+      → c + length (text (treeOf (treeAt t d at))) ≤ 4294967296 → at + listLen ≤ length t → len ≡ 1 → Filling b₀ b₀ len (at + listLen) 0
   filling-begin text is b₀ len h s l el =
       rw el
       record {
-        gone = gone-begin (treeAt t true (d - 1)) n (at + listLen);
+        gone = gone-begin (treeAt t (d - 1)) n (at + listLen);
         o = 40 ∷ [];
         size = refl;
         some = omega arith;
@@ -87,33 +87,33 @@ module _ (t : List ℕ) (at d n : ℕ) (m : Manner) (c : ℕ) where
       }
 
   -- what is done is no more than the whole
-  done-le : (k i p : ℕ) (g : Gone (treeAt t true (d - 1)) n (at + listLen) i p) → Right all → ((ys : Trees) → k ≤ length (40 ∷ rest m (g .pre ys) true)) → k ≤ length whole
+  done-le : (k i p : ℕ) (g : Gone (treeAt t (d - 1)) n (at + listLen) i p) → Right all → ((ys : Trees) → k ≤ length (40 ∷ rest m (g .pre ys) true)) → k ≤ length whole
   done-le k i p g r text = items-left g r (λ (xs : Trees). k ≤ length (40 ∷ rest m xs true)) text
 
 module _ {t : List ℕ} {at d n : ℕ} {m : Manner} {c : ℕ} {b₀ b : List ℕ} {len p i : ℕ} (h : Filling t at d n m c b₀ b len p i) where
   abbrev tree : Tree
-  tree = treeOf (treeAt t true (d - 1) p)
+  tree = treeOf (treeAt t (d - 1) p)
 
   -- the same at the names that a join of two ways gives
   pub filling-is : (b′ : List ℕ) (len′ p′ : ℕ) → b′ ≡ b → len′ ≡ len → p′ ≡ p → Filling t at d n m c b₀ b′ len′ p′ i
   filling-is b′ len′ p′ eb el ep = rw (eb, el, ep) h
 
-  item-right : i < n → Right (treeAt t true (d - 1) p)
-  item-right l = by (treeAt t true (d - 1) p) refl
+  item-right : i < n → Right (treeAt t (d - 1) p)
+  item-right l = by (treeAt t (d - 1) p) refl
     where
-      by : (y : Result (Found Tree)) → treeAt t true (d - 1) p ≡ y → Right y
+      by : (y : Result (Found Tree)) → treeAt t (d - 1) p ≡ y → Right y
       by (ok (found x q)) e = tt
-      by (refused a k) e = absurd (subst Right (gone-stop (treeAt t true (d - 1)) n (at + listLen) i p (h .gone) a k l e) (h .right))
+      by (refused a k) e = absurd (subst Right (gone-stop (treeAt t (d - 1)) n (at + listLen) i p (h .gone) a k l e) (h .right))
 
   -- the item at p, behind what stands before it
   pub record Item : Type 0 where
-    pub right : Right (treeAt t true (d - 1) p)
-    pub low : p < nextOf (treeAt t true (d - 1) p)
-    pub high : nextOf (treeAt t true (d - 1) p) ≤ length t
+    pub right : Right (treeAt t (d - 1) p)
+    pub low : p < nextOf (treeAt t (d - 1) p)
+    pub high : nextOf (treeAt t (d - 1) p) ≤ length t
     pub room : len + length (m .before (eqb i 0)) + length (m .item (eqb i 0) tree) ≤ length (whole t at d n m c)
 
-  abbrev on : i < n → Gone (treeAt t true (d - 1)) n (at + listLen) (i + 1) (nextOf (treeAt t true (d - 1) p))
-  on l = gone-item (treeAt t true (d - 1)) n (at + listLen) i p (h .gone) _ tree l (right-is (treeAt t true (d - 1) p) (item-right l))
+  abbrev on : i < n → Gone (treeAt t (d - 1)) n (at + listLen) (i + 1) (nextOf (treeAt t (d - 1) p))
+  on l = gone-item (treeAt t (d - 1)) n (at + listLen) i p (h .gone) _ tree l (right-is (treeAt t (d - 1) p) (item-right l))
 
   more-text : (ys : Trees) → 40 ∷ rest m (h .gone .pre (more tree ys)) true ≡ ((h .o ++ m .before (eqb i 0)) ++ m .item (eqb i 0) tree) ++ rest m ys false
   more-text ys = h .text (more tree ys) ∙ ap (λ (r : List ℕ). h .o ++ r) (rest-more m tree ys (eqb i 0)) ∙ join (h .o) (m .before (eqb i 0)) (m .item (eqb i 0) tree) (rest m ys false)
@@ -132,14 +132,14 @@ module _ {t : List ℕ} {at d n : ℕ} {m : Manner} {c : ℕ} {b₀ b : List ℕ
         right = item-right l;
         low = g .0;
         high = g .1;
-        room = done-le t at d n m c (len + length s + length x) (i + 1) (nextOf (treeAt t true (d - 1) p)) (on l) (h .right)
+        room = done-le t at d n m c (len + length s + length x) (i + 1) (nextOf (treeAt t (d - 1) p)) (on l) (h .right)
             (λ ys. omega (arith, h .size, a, a1, ap length (more-text ys) ∙ length-append ((h .o ++ s) ++ x) (rest m ys false)));
       }
 
   -- one item more, behind what stands before it: both were put into the rest of the room
   pub filling-step : i < n → (k r₁ r₂ q il : ℕ) (ys zs b₁ : List ℕ) → (len ≤ length b → r₁ ≡ len) → Puts (m .before (eqb i 0)) k (take (length b - r₁) (drop r₁ b)) ys
       → b₁ ≡ putMid r₁ (length b - r₁) b ys → length b₁ ≡ length b → (len + k ≤ length b₁ → r₂ ≡ len + k)
-      → Written (m .item (eqb i 0)) (treeAt t true (d - 1) p) q il (take (length b₁ - r₂) (drop r₂ b₁)) zs → length (putMid r₂ (length b₁ - r₂) b₁ zs) ≡ length b₁
+      → Written (m .item (eqb i 0)) (treeAt t (d - 1) p) q il (take (length b₁ - r₂) (drop r₂ b₁)) zs → length (putMid r₂ (length b₁ - r₂) b₁ zs) ≡ length b₁
       → Filling t at d n m c b₀ (putMid r₂ (length b₁ - r₂) b₁ zs) (len + k + il) q (i + 1)
   filling-step l k r₁ r₂ q il ys zs b₁ e₁ f₁ eb l₁ e₂ f₂ l₂ =
       let later : eqb (i + 1) 0 ≡ false = ne-eqb (i + 1) 0 (λ e. omega arith) in
@@ -168,7 +168,7 @@ module _ {t : List ℕ} {at d n : ℕ} {m : Manner} {c : ℕ} {b₀ b : List ℕ
   -- all items are done
   done : n ≤ i → (treesOf (all t at d n m c) ≡ h .gone .pre none) × (nextOf (all t at d n m c) ≡ p) × (whole t at d n m c ≡ h .o ++ m .end (eqb n 0))
   done l =
-      let e = gone-end (treeAt t true (d - 1)) n (at + listLen) i p (h .gone) l in
+      let e = gone-end (treeAt t (d - 1)) n (at + listLen) i p (h .gone) l in
       let k : i ≡ n = omega (arith, h .gone .few) in (
         ap treesOf e,
         ap nextOf e,
@@ -179,11 +179,11 @@ module _ {t : List ℕ} {at d n : ℕ} {m : Manner} {c : ℕ} {b₀ b : List ℕ
   end-size l k e = ap length (done l .2) ∙ length-append (h .o) (m .end (eqb n 0)) ∙ omega (arith, h .size)
 
   -- and the parenthesis closes
-  pub filling-end : n ≤ i → (text : Tree → List ℕ) (e : List ℕ) → Made d list treesOf (treeAt t true d at) (all t at d n m c)
+  pub filling-end : n ≤ i → (text : Tree → List ℕ) (e : List ℕ) → Made d list treesOf (treeAt t d at) (all t at d n m c)
       → text (list (treesOf (all t at d n m c))) ≡ whole t at d n m c → (k : ℕ) → Puts (40 ∷ []) k e b₀ → (cl r : ℕ) (ys : List ℕ) → (len ≤ length b → r ≡ len)
-      → Puts (m .end (eqb n 0)) cl (take (length b - r) (drop r b)) ys → Written text (treeAt t true d at) p (len + cl) e (putMid r (length b - r) b ys)
+      → Puts (m .end (eqb n 0)) cl (take (length b - r) (drop r b)) ys → Written text (treeAt t d at) p (len + cl) e (putMid r (length b - r) b ys)
   filling-end l text e made is k f cl r ys er g =
-      let v : text (treeOf (treeAt t true d at)) ≡ h .o ++ m .end (eqb n 0) = ap (λ (y : Result (Found Tree)). text (treeOf y)) (made .is) ∙ is ∙ done l .2 in (
+      let v : text (treeOf (treeAt t d at)) ≡ h .o ++ m .end (eqb n 0) = ap (λ (y : Result (Found Tree)). text (treeOf y)) (made .is) ∙ is ∙ done l .2 in (
         sym (ap nextOf (made .is) ∙ done l .1),
         subst⁻¹ (λ (u : List ℕ). Puts u (len + cl) e (putMid r (length b - r) b ys)) v
             (puts-both (h .o) (m .end (eqb n 0)) e b ys len cl r (h .held e (refl, f .1)) er g),
@@ -203,11 +203,11 @@ module _ (d : ℕ) (y : Result (Found Tree)) (z : Result (Found Trees)) (w i c :
 -- the item at p of a wrapped list, at the indent j and the column k
 module _ (w ind : ℕ) {t : List ℕ} {at d n c : ℕ} {b₀ b : List ℕ} {len p i : ℕ} (h : Filling t at d n (broken w ind (c + 1)) c b₀ b len p i) (l : i < n) (j k : ℕ)
     (ej : j ≡ inner (eqb i 0) Wrap ind) (ek : k ≡ column (gap (eqb i 0) Wrap ind (c + 1))) where
-  pub wrapped-ready : k + length (laid w j k (treeOf (treeAt t true (d - 1) p))) ≤ 4294967296
+  pub wrapped-ready : k + length (laid w j k (treeOf (treeAt t (d - 1) p))) ≤ 4294967296
   wrapped-ready = rw (ej, ek) (omega (arith, filling-item h l .room, h .small, h .some, item-column-le (eqb i 0) ind (c + 1)))
 
-  pub wrapped-item : (q il : ℕ) (r r′ : List ℕ) → Written (laid w j k) (treeAt t true (d - 1) p) q il r r′
-      → Written (broken w ind (c + 1) .item (eqb i 0)) (treeAt t true (d - 1) p) q il r r′
+  pub wrapped-item : (q il : ℕ) (r r′ : List ℕ) → Written (laid w j k) (treeAt t (d - 1) p) q il r r′
+      → Written (broken w ind (c + 1) .item (eqb i 0)) (treeAt t (d - 1) p) q il r r′
   wrapped-item q il r r′ g =
-      subst (λ (v : ℕ). Written (laid w (inner (eqb i 0) Wrap ind) v) (treeAt t true (d - 1) p) q il r r′) ek
-      (subst (λ (v : ℕ). Written (laid w v k) (treeAt t true (d - 1) p) q il r r′) ej g)
+      subst (λ (v : ℕ). Written (laid w (inner (eqb i 0) Wrap ind) v) (treeAt t (d - 1) p) q il r r′) ek
+      (subst (λ (v : ℕ). Written (laid w v k) (treeAt t (d - 1) p) q il r r′) ej g)

@@ -92,7 +92,7 @@ page-le none w g = omega arith
 page-le (more x xs) w g = omega (arith, looked-le x depthLimit Wrap w 0 0 (g .0), page-le xs w (g .1))
 
 pub looked-bound : LookedBound
-looked-bound t w xs q hb e = page-le xs w (sound true t xs q hb e .good)
+looked-bound t w xs q hb e = page-le xs w (sound t xs q hb e .good)
 
 mutual
   unfolding nodes records
@@ -109,17 +109,17 @@ mutual
   nodes-of-le (more x xs) = omega (arith, length-append (records x) (recordsOf xs), nodes-le x, nodes-of-le xs)
 
 -- so that the number is far below what 32 bits hold
-pub looked-small : (t : List ℕ) (w : ℕ) (xs : Trees) (q : ℕ) → Bytes t → tableOf true t ≡ ok (found xs q) → pageLooked xs w < 2 ^ 32
+pub looked-small : (t : List ℕ) (w : ℕ) (xs : Trees) (q : ℕ) → Bytes t → tableOf t ≡ ok (found xs q) → pageLooked xs w < 2 ^ 32
 looked-small t w xs q hb e =
-    let a = sound true t xs q hb e in
+    let a = sound t xs q hb e in
     omega (arith, looked-bound t w xs q hb e, nodes-of-le xs, ap length (a .is), a .small)
 
 -- a tree that a table is right in
-pub right-looked : (t : List ℕ) (d p w i c : ℕ) → Bytes t → p ≤ length t → d ≤ depthLimit → Right (treeAt t true d p)
-    → seen w i c (treeOf (treeAt t true d p)) ≤ depthLimit * (nextOf (treeAt t true d p) - p)
-right-looked t d p w i c hb hp hd r = by (treeAt t true d p) (tree-holds t hb true d p hp) r
+pub right-looked : (t : List ℕ) (d p w i c : ℕ) → Bytes t → p ≤ length t → d ≤ depthLimit → Right (treeAt t d p)
+    → seen w i c (treeOf (treeAt t d p)) ≤ depthLimit * (nextOf (treeAt t d p) - p)
+right-looked t d p w i c hb hp hd r = by (treeAt t d p) (tree-holds t hb d p hp) r
   where
-    by : (y : Result (Found Tree)) → Holds t true d p y → Right y → seen w i c (treeOf y) ≤ depthLimit * (nextOf y - p)
+    by : (y : Result (Found Tree)) → Holds t d p y → Right y → seen w i c (treeOf y) ≤ depthLimit * (nextOf y - p)
     by (ok (found x q)) h r =
         let l : d * nodes x ≤ depthLimit * nodes x = mul-le-mul-right (nodes x) hd in
         omega (arith, looked-le x d Wrap w i c (h .2), l, nodes-le x, h .1)

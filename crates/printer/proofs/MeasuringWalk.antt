@@ -37,16 +37,16 @@ use Rattle.printer.proofs.LayoutBounds.{named-size, nl-len-le, inner-le
 
 pub record Got (t : List ℕ) (d p w i c q cost′ empty len : ℕ) : Type 0 where
   pub tree : Tree
-  pub is : treeAt t true d p ≡ ok (found tree q)
+  pub is : treeAt t d p ≡ ok (found tree q)
   pub costs-it : cost′ ≡ cost tree
   pub lines-it : cost′ + empty ≡ length (line tree)
   pub lays-it : len ≡ length (laid w i c tree)
 
-pub got-tree : (t : List ℕ) (d p w i c : ℕ) (m : Size) → Sized (treeAt t true d p) w i c m → m .number ≤ 0
+pub got-tree : (t : List ℕ) (d p w i c : ℕ) (m : Size) → Sized (treeAt t d p) w i c m → m .number ≤ 0
     → Got t d p w i c (m .place) (m .cost) (m .empty) (m .len)
-got-tree t d p w i c m s h = by (treeAt t true d p) refl s
+got-tree t d p w i c m s h = by (treeAt t d p) refl s
   where
-    by : (y : Result (Found Tree)) → treeAt t true d p ≡ y → Sized y w i c m → Got t d p w i c (m .place) (m .cost) (m .empty) (m .len)
+    by : (y : Result (Found Tree)) → treeAt t d p ≡ y → Sized y w i c m → Got t d p w i c (m .place) (m .cost) (m .empty) (m .len)
     by (ok (found x q)) e s =
         record { tree = x; is = e ∙ ap (λ (v : ℕ). ok (found x v)) (sym (s .1)); costs-it = s .2; lines-it = s .3; lays-it = s .4 }
     by (refused n a) e s = absurd (omega (arith, s .0, s .1))
@@ -57,7 +57,7 @@ payload-is t at len h6 hl = omega (arith, payload-size t at len (omega arith) h6
 pub got-name : (t : List ℕ) (d p w i c q : ℕ) → q ≡ pastSymbol t p → p < q → (headLen ≤ q - p) × Got t d p w i c q (q - p - headLen) 0 (q - p - headLen)
 unfolding lay cost line
 got-name t d p w i c q e l =
-    let n = symbol-there t true d p q e l in
+    let n = symbol-there t d p q e l in
     let s = payload-is t p (q - p) (n .0) (n .1) in
     (n .0, record { tree = symbol (payload t p (q - p)); is = n .2; costs-it = sym s; lines-it = omega arith; lays-it = sym s })
 
@@ -76,7 +76,7 @@ pub record Small (t : List ℕ) (p q cost′ empty len : ℕ) : Type 0 where
 pub small : (t : List ℕ) (d p w i c q cost′ empty len : ℕ) → Bytes t → p ≤ length t → i + d ≤ depthLimit → Got t d p w i c q cost′ empty len
     → Small t p q cost′ empty len
 small t d p w i c q cost′ empty len hb hp h g =
-    let e = found-in t true d p q (g .tree) hp (g .is) in
+    let e = found-in t d p q (g .tree) hp (g .is) in
     record {
       past = e .0;
       within = e .1;
@@ -86,39 +86,39 @@ small t d p w i c q cost′ empty len hb hp h g =
 
 -- ---- a judged record s
 
-module _ (t : List ℕ) (d at : ℕ) (s : Step) (e : s ≡ stepAt t true at (ltb 0 d)) (w i c : ℕ) (r : Size) where
-  to : (s′ : Step) → s ≡ s′ → Sized (ofStep t at (treeAt t true (d - 1)) s′) w i c r → Sized (treeAt t true d at) w i c r
-  to s′ e′ k = subst⁻¹ (λ (v : Result (Found Tree)). Sized v w i c r) (step-tree t true d at s s′ e e′) k
+module _ (t : List ℕ) (d at : ℕ) (s : Step) (e : s ≡ stepAt t at (ltb 0 d)) (w i c : ℕ) (r : Size) where
+  to : (s′ : Step) → s ≡ s′ → Sized (ofStep t at (treeAt t (d - 1)) s′) w i c r → Sized (treeAt t d at) w i c r
+  to s′ e′ k = subst⁻¹ (λ (v : Result (Found Tree)). Sized v w i c r) (step-tree t d at s s′ e e′) k
 
-  pub at-fault : (n : ℕ) → s ≡ step.Fault n → (r .number ≡ n) × (r .place ≡ at) → Sized (treeAt t true d at) w i c r
-  at-fault n e′ k = to (step.Fault n) e′ (k .0, step-in t true d at s (step.Fault n) e e′ .0, k .1)
+  pub at-fault : (n : ℕ) → s ≡ step.Fault n → (r .number ≡ n) × (r .place ≡ at) → Sized (treeAt t d at) w i c r
+  at-fault n e′ k = to (step.Fault n) e′ (k .0, step-in t d at s (step.Fault n) e e′ .0, k .1)
 
   pub at-symbol : (len : ℕ) → s ≡ step.Symbol len → r ≡ record { number = 0; place = at + len; cost = len - headLen; empty = 0; len = len - headLen }
-      → Sized (treeAt t true d at) w i c r
+      → Sized (treeAt t d at) w i c r
   unfolding lay cost line
   at-symbol len e′ k =
-      let a = step-in t true d at s (step.Symbol len) e e′ in
+      let a = step-in t d at s (step.Symbol len) e e′ in
       to (step.Symbol len) e′ (rw (k, payload-is t at len (a .0) (a .1)) (refl, refl, refl, omega arith, refl))
 
   pub at-integer : (n : ℕ) (z : ℤ) → s ≡ step.Integer → n ≡ length (integerText z) → z ≡ wideIn t (at + headLen)
-      → r ≡ record { number = 0; place = at + integerLen; cost = n; empty = 0; len = n } → Sized (treeAt t true d at) w i c r
+      → r ≡ record { number = 0; place = at + integerLen; cost = n; empty = 0; len = n } → Sized (treeAt t d at) w i c r
   unfolding lay cost line
   at-integer n z e′ en ez k =
-      to step.Integer e′ (rw (k, en, integer-value t at z (step-in t true d at s step.Integer e e′ .0) ez) (refl, refl, refl, omega arith, refl))
+      to step.Integer e′ (rw (k, en, integer-value t at z (step-in t d at s step.Integer e e′ .0) ez) (refl, refl, refl, omega arith, refl))
 
   -- m is what the tree below was measured as
-  pub binding-stop : (len : ℕ) (m : Size) → s ≡ step.Binding len → Sized (treeAt t true (d - 1) (at + len)) w i (c + (len - headLen + 3)) m → 0 < m .number
-      → (r .number ≡ m .number) × (r .place ≡ m .place) → Sized (treeAt t true d at) w i c r
+  pub binding-stop : (len : ℕ) (m : Size) → s ≡ step.Binding len → Sized (treeAt t (d - 1) (at + len)) w i (c + (len - headLen + 3)) m → 0 < m .number
+      → (r .number ≡ m .number) × (r .place ≡ m .place) → Sized (treeAt t d at) w i c r
   binding-stop len m e′ u l k =
-      to (step.Binding len) e′ (rw (stop-of (treeAt t true (d - 1) (at + len)) w i (c + (len - headLen + 3)) m u l) (k .0, l, k .1))
+      to (step.Binding len) e′ (rw (stop-of (treeAt t (d - 1) (at + len)) w i (c + (len - headLen + 3)) m u l) (k .0, l, k .1))
 
-  pub binding-good : (len : ℕ) (m : Size) → s ≡ step.Binding len → Sized (treeAt t true (d - 1) (at + len)) w i (c + (len - headLen + 3)) m → m .number ≤ 0
+  pub binding-good : (len : ℕ) (m : Size) → s ≡ step.Binding len → Sized (treeAt t (d - 1) (at + len)) w i (c + (len - headLen + 3)) m → m .number ≤ 0
       → (r .number ≡ 0) × (r .place ≡ m .place) × (r .cost ≡ len - headLen + 3 + m .cost) × (r .empty ≡ m .empty) × (r .len ≡ len - headLen + 3 + m .len)
-      → Sized (treeAt t true d at) w i c r
+      → Sized (treeAt t d at) w i c r
   unfolding cost
   binding-good len m e′ u l k =
       let y = got-tree t (d - 1) (at + len) w i (c + (len - headLen + 3)) m u l in
-      let a = step-in t true d at s (step.Binding len) e e′ in
+      let a = step-in t d at s (step.Binding len) e e′ in
       let nm : List ℕ = payload t at len in
       let z : length nm ≡ len - headLen = payload-is t at len (a .0) (a .1) in
       let v : len - headLen + 3 ≡ length (named nm) = omega (arith, named-size nm) in
@@ -132,19 +132,19 @@ module _ (t : List ℕ) (d at : ℕ) (s : Step) (e : s ≡ stepAt t true at (ltb
         k .4 ∙ omega (arith, y .lays-it, g),
       ))
 
-  pub at-list : (n : ℕ) → s ≡ step.List n → Sized (andThen (itemsAt (treeAt t true (d - 1)) n (at + listLen)) (λ xs q. ok (found (list xs) q))) w i c r
-      → Sized (treeAt t true d at) w i c r
+  pub at-list : (n : ℕ) → s ≡ step.List n → Sized (andThen (itemsAt (treeAt t (d - 1)) n (at + listLen)) (λ xs q. ok (found (list xs) q))) w i c r
+      → Sized (treeAt t d at) w i c r
   at-list n e′ k = to (step.List n) e′ k
 
 -- the count of a list fits 4 bytes
-pub list-few : (t : List ℕ) (d at n : ℕ) (s : Step) → Bytes t → s ≡ stepAt t true at (ltb 0 d) → s ≡ step.List n → n < 4294967296
+pub list-few : (t : List ℕ) (d at n : ℕ) (s : Step) → Bytes t → s ≡ stepAt t at (ltb 0 d) → s ≡ step.List n → n < 4294967296
 list-few t d at n s hb e e′ =
-    let h = step-in t true d at s (step.List n) e e′ in omega (arith, part-lt t (at + headLen) 4 hb (omega arith), h .2)
+    let h = step-in t d at s (step.List n) e e′ in omega (arith, part-lt t (at + headLen) 4 hb (omega arith), h .2)
 
 -- ---- the items of a list: k of them are done, and p is past them
 
 pub record Walk (t : List ℕ) (at n d w i c p k cost′ empty len : ℕ) : Type 0 where
-  pub gone : Gone (treeAt t true d) n at k p
+  pub gone : Gone (treeAt t d) n at k p
   pub costing : (ys : Trees) → n + 1 + costs (gone .pre ys) ≡ cost′ + costs ys
   pub lined : (ys : Trees) → n + 1 + sizes flatly (gone .pre ys) true ≡ cost′ + empty + sizes flatly ys (eqb k 0)
   pub summed : (ys : Trees) → length (bytes (nl i)) + 2 + sizes (broken w i (c + 1)) (gone .pre ys) true ≡ len + sizes (broken w i (c + 1)) ys (eqb k 0)
@@ -155,7 +155,7 @@ pub record Walk (t : List ℕ) (at n d w i c p k cost′ empty len : ℕ) : Type
 
 pub walk-begin : (t : List ℕ) (at n d w i c k : ℕ) → at ≤ length t → i ≤ depthLimit → k ≡ length (bytes (nl i)) → Walk t at n d w i c at 0 (n + 1) 0 (k + 2)
 walk-begin t at n d w i c k h hi e = rw e record {
-  gone = gone-begin (treeAt t true d) n at;
+  gone = gone-begin (treeAt t d) n at;
   costing = λ ys. refl;
   lined = λ ys. omega arith;
   summed = λ ys. refl;
@@ -181,7 +181,7 @@ module _ (t : List ℕ) (at n d w i c p k cost′ empty len : ℕ) (g : Walk t a
       let x : Tree = y .tree in
       let z : eqb (k + 1) 0 ≡ false = ne-eqb (k + 1) 0 (λ (u : k + 1 ≡ 0). omega arith) in
       record {
-        gone = gone-item (treeAt t true d) n at k p (g .gone) q x lt (y .is);
+        gone = gone-item (treeAt t d) n at k p (g .gone) q x lt (y .is);
         costing = λ ys. g .costing (more x ys) ∙ omega (arith, y .costs-it);
         lined = λ ys. g .lined (more x ys) ∙ rw z (omega (arith, y .lines-it));
         summed = λ ys. g .summed (more x ys) ∙ rw z (omega (arith, y .lays-it));
@@ -197,24 +197,24 @@ module _ (t : List ℕ) (at n d w i c p k cost′ empty len : ℕ) (g : Walk t a
       let y = got-name t d p w ind col q f l in
       rw ep (walk-item q (q - p - headLen) 0 (q - p - headLen) cost″ empty″ len″ hb hi (y .1) ea (eb ∙ omega arith) el)
 
-  pub walk-tree : (j o p″ cost″ empty″ len″ : ℕ) (m : Size) → Bytes t → i + 1 + d ≤ depthLimit → j ≡ ind → o ≡ col → Sized (treeAt t true d p) w j o m → m .number ≤ 0
+  pub walk-tree : (j o p″ cost″ empty″ len″ : ℕ) (m : Size) → Bytes t → i + 1 + d ≤ depthLimit → j ≡ ind → o ≡ col → Sized (treeAt t d p) w j o m → m .number ≤ 0
       → p″ ≡ m .place → cost″ ≡ cost′ + m .cost → empty″ ≡ empty + m .empty → len″ ≡ len + m .len → Walk t at n d w i c p″ (k + 1) cost″ empty″ len″
   walk-tree j o p″ cost″ empty″ len″ m hb hi ej eo s l ep ea eb el =
-      let s′ : Sized (treeAt t true d p) w ind col m = subst (λ (v : ℕ). Sized (treeAt t true d p) w ind v m) eo (subst (λ (v : ℕ). Sized (treeAt t true d p) w v o m) ej s) in
+      let s′ : Sized (treeAt t d p) w ind col m = subst (λ (v : ℕ). Sized (treeAt t d p) w ind v m) eo (subst (λ (v : ℕ). Sized (treeAt t d p) w v o m) ej s) in
       rw ep (walk-item (m .place) (m .cost) (m .empty) (m .len) cost″ empty″ len″ hb hi (got-tree t d p w ind col m s′ l) ea eb el)
 
   -- m is the refusal at p
-  pub walk-stop : (j o : ℕ) (m r : Size) → Sized (treeAt t true d p) w j o m → 0 < m .number → (r .number ≡ m .number) × (r .place ≡ m .place)
-      → Sized (andThen (itemsAt (treeAt t true d) n at) (λ xs q. ok (found (list xs) q))) w i c r
+  pub walk-stop : (j o : ℕ) (m r : Size) → Sized (treeAt t d p) w j o m → 0 < m .number → (r .number ≡ m .number) × (r .place ≡ m .place)
+      → Sized (andThen (itemsAt (treeAt t d) n at) (λ xs q. ok (found (list xs) q))) w i c r
   walk-stop j o m r s l h =
-      rw (gone-stop (treeAt t true d) n at k p (g .gone) (m .number) (m .place) lt (stop-of (treeAt t true d p) w j o m s l)) (h .0, l, h .1)
+      rw (gone-stop (treeAt t d) n at k p (g .gone) (m .number) (m .place) lt (stop-of (treeAt t d p) w j o m s l)) (h .0, l, h .1)
 
 module _ (t : List ℕ) (at n d w i c p k cost′ empty len : ℕ) (g : Walk t at n d w i c p k cost′ empty len) (le : n ≤ k) (some : 0 < n) where
   abbrev walked : Trees
   walked = g .gone .pre none
 
-  is-all : itemsAt (treeAt t true d) n at ≡ ok (found walked p)
-  is-all = gone-end (treeAt t true d) n at k p (g .gone) le
+  is-all : itemsAt (treeAt t d) n at ≡ ok (found walked p)
+  is-all = gone-end (treeAt t d) n at k p (g .gone) le
 
   all-count : count walked ≡ n
   all-count = g .gone .counted none ∙ omega (arith, g .gone .few)
@@ -229,14 +229,14 @@ module _ (t : List ℕ) (at n d w i c p k cost′ empty len : ℕ) (g : Walk t a
 
   pub walk-line : (fit : Bool) (r : Size) → fit ≡ fitsIn w c cost′ → fit ≡ true
       → (r .number ≡ 0) × (r .place ≡ p) × (r .cost ≡ cost′) × (r .empty ≡ empty) × (r .len ≡ cost′ + empty)
-      → Sized (andThen (itemsAt (treeAt t true d) n at) (λ xs q. ok (found (list xs) q))) w i c r
+      → Sized (andThen (itemsAt (treeAt t d) n at) (λ xs q. ok (found (list xs) q))) w i c r
   walk-line fit r ef e h =
       let f : fitsIn w c (cost (list walked)) ≡ true = ap (fitsIn w c) (sym all-cost) ∙ sym ef ∙ e in
       rw is-all (h .0, h .1, h .2 ∙ all-cost, omega (arith, h .2, h .3, all-line), h .4 ∙ all-line ∙ sym (ap length (laid-fits walked w i c f)))
 
   pub walk-wide : (fit : Bool) (r : Size) → fit ≡ fitsIn w c cost′ → fit ≡ false
       → (r .number ≡ 0) × (r .place ≡ p) × (r .cost ≡ cost′) × (r .empty ≡ empty) × (r .len ≡ len + (n - 1) * length (bytes (nl (i + 1))))
-      → Sized (andThen (itemsAt (treeAt t true d) n at) (λ xs q. ok (found (list xs) q))) w i c r
+      → Sized (andThen (itemsAt (treeAt t d) n at) (λ xs q. ok (found (list xs) q))) w i c r
   unfolding sizes
   walk-wide fit r ef e h =
       let f : fitsIn w c (cost (list walked)) ≡ false = ap (fitsIn w c) (sym all-cost) ∙ sym ef ∙ e in
@@ -246,7 +246,7 @@ module _ (t : List ℕ) (at n d w i c p k cost′ empty len : ℕ) (g : Walk t a
 
 -- an empty list is () at any width, whether it fits or not
 pub none-sized : (t : List ℕ) (at n d w i c : ℕ) (r : Size) → n ≡ 0 → (r .number ≡ 0) × (r .place ≡ at) × (r .cost ≡ 1) × (r .empty ≡ 1) × (r .len ≡ 2)
-    → Sized (andThen (itemsAt (treeAt t true d) n at) (λ xs q. ok (found (list xs) q))) w i c r
+    → Sized (andThen (itemsAt (treeAt t d) n at) (λ xs q. ok (found (list xs) q))) w i c r
 unfolding itemsAt lay cost line
 none-sized t at n d w i c r e h = rw e (h .0, h .1, h .2, omega (arith, h .2, h .3), h .4 ∙ by (fitsIn w c 1))
   where
@@ -261,15 +261,15 @@ breaks-fit k e i h l eq = omega (arith, mul-le-mul-left k (nl-len-le i e l eq), 
 -- ---- trees up to the table's end: n bytes are those of the trees before p
 
 pub record Paged (t : List ℕ) (w p n : ℕ) : Type 0 where
-  pub read : Read t true p
+  pub read : Read t p
   pub paged : (ys : Trees) → length (page (read .pre ys) w) ≡ n + length (pageFrom (ltb 0 p) ys w)
   pub size : n ≤ 128 * p
 
-pub paged-long : (t : List ℕ) (w : ℕ) → tableLimit < length t → Summed (tableOf true t) w (Refused (record { number = tooLong; place = tableLimit }))
-paged-long t w h = rw (too-long t true h) (refl, refl)
+pub paged-long : (t : List ℕ) (w : ℕ) → tableLimit < length t → Summed (tableOf t) w (Refused (record { number = tooLong; place = tableLimit }))
+paged-long t w h = rw (too-long t h) (refl, refl)
 
 pub paged-begin : (t : List ℕ) (w : ℕ) → length t ≤ tableLimit → Paged t w 0 0
-paged-begin t w h = record { read = read-begin t true h; paged = λ ys. omega arith; size = omega arith }
+paged-begin t w h = record { read = read-begin t h; paged = λ ys. omega arith; size = omega arith }
 
 -- the LF between two trees
 abbrev lead : ℕ → List ℕ
@@ -298,12 +298,12 @@ more-size later x xs w =
 
 module _ (t : List ℕ) (w p n : ℕ) (g : Paged t w p n) where
   -- n′ counts the LF before the tree
-  pub paged-tree : (n′ : ℕ) (m : Size) → Bytes t → p < length t → Sized (treeAt t true depthLimit p) w 0 0 m → m .number ≤ 0 → n′ ≡ n + length (lead p)
+  pub paged-tree : (n′ : ℕ) (m : Size) → Bytes t → p < length t → Sized (treeAt t depthLimit p) w 0 0 m → m .number ≤ 0 → n′ ≡ n + length (lead p)
       → (p < m .place) × Paged t w (m .place) (n′ + m .len + 1)
   paged-tree n′ m hb h s l en =
       let y = got-tree t depthLimit p w 0 0 m s l in
       let v = small t depthLimit p w 0 0 (m .place) (m .cost) (m .empty) (m .len) hb (g .read .within) (omega arith) y in
-      let o = read-tree t true p (g .read) (m .place) (y .tree) h (y .is) in (
+      let o = read-tree t p (g .read) (m .place) (y .tree) h (y .is) in (
         o .past,
         record {
           read = o .rest;
@@ -315,11 +315,11 @@ module _ (t : List ℕ) (w p n : ℕ) (g : Paged t w p n) where
         },
       )
 
-  pub paged-stop : (m : Size) → p < length t → Sized (treeAt t true depthLimit p) w 0 0 m → 0 < m .number
-      → Summed (tableOf true t) w (Refused (record { number = m .number; place = m .place }))
+  pub paged-stop : (m : Size) → p < length t → Sized (treeAt t depthLimit p) w 0 0 m → 0 < m .number
+      → Summed (tableOf t) w (Refused (record { number = m .number; place = m .place }))
   paged-stop m h s l =
-      rw (read-stop t true p (g .read) (m .number) (m .place) h (stop-of (treeAt t true depthLimit p) w 0 0 m s l)) (refl, refl)
+      rw (read-stop t p (g .read) (m .number) (m .place) h (stop-of (treeAt t depthLimit p) w 0 0 m s l)) (refl, refl)
 
-  pub paged-end : length t ≤ p → Summed (tableOf true t) w (Text n)
+  pub paged-end : length t ≤ p → Summed (tableOf t) w (Text n)
   unfolding pageFrom
-  paged-end h = rw (read-end t true p (g .read) h) (sym (g .paged none ∙ omega arith))
+  paged-end h = rw (read-end t p (g .read) h) (sym (g .paged none ∙ omega arith))

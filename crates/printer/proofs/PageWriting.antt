@@ -69,7 +69,7 @@ node-out at w a l k q r₁ r₂ y b b₁ b₂ ys zs fa e₁ fl eb e₂ fk =
 -- ---- of the page the bytes o are done, for which k records were looked at, and the trees from p are left
 
 pub record Paging (t : List ℕ) (w : ℕ) (o : List ℕ) (k p : ℕ) : Type 0 where
-  pub read : Read t true p
+  pub read : Read t p
   pub left : (ys : Trees) → page (read .pre ys) w ≡ o ++ pageFrom (ltb 0 p) ys w
   pub counted : (ys : Trees) → pageLooked (read .pre ys) w ≡ k + pageLooked ys w
 
@@ -83,19 +83,19 @@ more-looked x xs w = refl
 
 -- the bytes of the tree at p
 abbrev pub node : List ℕ → ℕ → ℕ → List ℕ
-node t w p = framed (ltb 0 p) w (treeOf (treeAt t true depthLimit p))
+node t w p = framed (ltb 0 p) w (treeOf (treeAt t depthLimit p))
 
-paging-step : (t : List ℕ) (w : ℕ) (o : List ℕ) (k p : ℕ) → Paging t w o k p → p < length t → Right (tableOf true t)
-    → Right (treeAt t true depthLimit p) × Paging t w (o ++ node t w p) (k + seen w 0 0 (treeOf (treeAt t true depthLimit p))) (nextOf (treeAt t true depthLimit p))
-paging-step t w o k p g l r = by (treeAt t true depthLimit p) refl
+paging-step : (t : List ℕ) (w : ℕ) (o : List ℕ) (k p : ℕ) → Paging t w o k p → p < length t → Right (tableOf t)
+    → Right (treeAt t depthLimit p) × Paging t w (o ++ node t w p) (k + seen w 0 0 (treeOf (treeAt t depthLimit p))) (nextOf (treeAt t depthLimit p))
+paging-step t w o k p g l r = by (treeAt t depthLimit p) refl
   where
     join : (a b c d : List ℕ) → a ++ (b ++ (c ++ (10 ∷ d))) ≡ (a ++ (b ++ (c ++ (10 ∷ [])))) ++ d
     join a b c d = simp append-assoc
 
-    by : (y : Result (Found Tree)) → treeAt t true depthLimit p ≡ y → Right y × Paging t w (o ++ framed (ltb 0 p) w (treeOf y)) (k + seen w 0 0 (treeOf y)) (nextOf y)
-    by (refused n a) e = absurd (subst Right (read-stop t true p (g .read) n a l e) r)
+    by : (y : Result (Found Tree)) → treeAt t depthLimit p ≡ y → Right y × Paging t w (o ++ framed (ltb 0 p) w (treeOf y)) (k + seen w 0 0 (treeOf y)) (nextOf y)
+    by (refused n a) e = absurd (subst Right (read-stop t p (g .read) n a l e) r)
     by (ok (found x q)) e =
-        let n = read-tree t true p (g .read) q x l e in (
+        let n = read-tree t p (g .read) q x l e in (
           tt,
           record {
             read = n .rest;
@@ -108,10 +108,10 @@ paging-step t w o k p g l r = by (treeAt t true depthLimit p) refl
           },
         )
 
-paging-end : (t : List ℕ) (w : ℕ) (o : List ℕ) (k p : ℕ) → Paging t w o k p → length t ≤ p → (page (treesOf (tableOf true t)) w ≡ o) × (pageLooked (treesOf (tableOf true t)) w ≡ k)
+paging-end : (t : List ℕ) (w : ℕ) (o : List ℕ) (k p : ℕ) → Paging t w o k p → length t ≤ p → (page (treesOf (tableOf t)) w ≡ o) × (pageLooked (treesOf (tableOf t)) w ≡ k)
 unfolding pageFrom pageLooked
 paging-end t w o k p g l =
-    let e = read-end t true p (g .read) l in (
+    let e = read-end t p (g .read) l in (
       ap (λ (y : Result (Found Trees)). page (treesOf y) w) e ∙ g .left none ∙ append-nil o,
       ap (λ (y : Result (Found Trees)). pageLooked (treesOf y) w) e ∙ g .counted none ∙ omega arith,
     )
@@ -120,24 +120,24 @@ paging-end t w o k p g l =
 pub record Pages (t : List ℕ) (w : ℕ) (b₀ b : List ℕ) (n k p : ℕ) : Type 0 where
   pub o : List ℕ
   pub paging : Paging t w o k p
-  pub right : Right (tableOf true t)
+  pub right : Right (tableOf t)
   pub held : Puts o n b₀ b
   pub small : n ≤ 128 * p
   pub few : k ≤ depthLimit * p
   pub kept : length b ≡ length b₀
 
-short : (t : List ℕ) → Right (tableOf true t) → length t ≤ tableLimit
+short : (t : List ℕ) → Right (tableOf t) → length t ≤ tableLimit
 unfolding tableOf
 short t r = by (ltb tableLimit (length t)) refl r
   where
-    by : (b : Bool) → ltb tableLimit (length t) ≡ b → Right (cond b (refused tooLong tableLimit) (treesAt t true (length t + 1) 0)) → length t ≤ tableLimit
+    by : (b : Bool) → ltb tableLimit (length t) ≡ b → Right (cond b (refused tooLong tableLimit) (treesAt t (length t + 1) 0)) → length t ≤ tableLimit
     by true e k = absurd k
     by false e k = ltb-false tableLimit (length t) e
 
-pub pages-begin : (t : List ℕ) (w : ℕ) (b : List ℕ) → Right (tableOf true t) → Pages t w b b 0 0 0
+pub pages-begin : (t : List ℕ) (w : ℕ) (b : List ℕ) → Right (tableOf t) → Pages t w b b 0 0 0
 pages-begin t w b r = record {
   o = [];
-  paging = record { read = read-begin t true (short t r); left = λ ys. refl; counted = λ ys. omega arith };
+  paging = record { read = read-begin t (short t r); left = λ ys. refl; counted = λ ys. omega arith };
   right = r;
   held = (refl, λ l. refl);
   small = omega arith;
@@ -147,7 +147,7 @@ pages-begin t w b r = record {
 
 module _ {t : List ℕ} {w : ℕ} {b₀ b : List ℕ} {n k p : ℕ} (h : Pages t w b₀ b n k p) where
   step : p < length t
-      → Right (treeAt t true depthLimit p) × Paging t w (h .o ++ node t w p) (k + seen w 0 0 (treeOf (treeAt t true depthLimit p))) (nextOf (treeAt t true depthLimit p))
+      → Right (treeAt t depthLimit p) × Paging t w (h .o ++ node t w p) (k + seen w 0 0 (treeOf (treeAt t depthLimit p))) (nextOf (treeAt t depthLimit p))
   step l = paging-step t w (h .o) k p (h .paging) l (h .right)
 
   pub pages-within : p ≤ length t
@@ -156,22 +156,22 @@ module _ {t : List ℕ} {w : ℕ} {b₀ b : List ℕ} {n k p : ℕ} (h : Pages t
   pub pages-limit : length t ≤ tableLimit
   pages-limit = h .paging .read .limit
 
-  pub pages-tree : p < length t → Right (treeAt t true depthLimit p)
+  pub pages-tree : p < length t → Right (treeAt t depthLimit p)
   pages-tree l = step l .0
 
-  pub pages-step : p < length t → (q l x r : ℕ) (ys : List ℕ) → Written (framed (ltb 0 p) w) (treeAt t true depthLimit p) q l (take (length b - r) (drop r b)) ys
-      × (x ≡ seen w 0 0 (treeOf (treeAt t true depthLimit p)))
-      → (length (laid w 0 0 (treeOf (treeAt t true depthLimit p))) + 300 ≤ 128 * (nextOf (treeAt t true depthLimit p) - p)) × (p < nextOf (treeAt t true depthLimit p))
-      × (nextOf (treeAt t true depthLimit p) ≤ length t)
-      → seen w 0 0 (treeOf (treeAt t true depthLimit p)) ≤ depthLimit * (nextOf (treeAt t true depthLimit p) - p)
+  pub pages-step : p < length t → (q l x r : ℕ) (ys : List ℕ) → Written (framed (ltb 0 p) w) (treeAt t depthLimit p) q l (take (length b - r) (drop r b)) ys
+      × (x ≡ seen w 0 0 (treeOf (treeAt t depthLimit p)))
+      → (length (laid w 0 0 (treeOf (treeAt t depthLimit p))) + 300 ≤ 128 * (nextOf (treeAt t depthLimit p) - p)) × (p < nextOf (treeAt t depthLimit p))
+      × (nextOf (treeAt t depthLimit p) ≤ length t)
+      → seen w 0 0 (treeOf (treeAt t depthLimit p)) ≤ depthLimit * (nextOf (treeAt t depthLimit p) - p)
       → (n ≤ length b → r ≡ n) → length (putMid r (length b - r) b ys) ≡ length b
       → Pages t w b₀ (putMid r (length b - r) b ys) (n + l) (k + x) q
   pages-step lt q l x r ys g s m er lk =
       let f = g .0 in
-      let z = framed-le (ltb 0 p) w (treeOf (treeAt t true depthLimit p)) in
+      let z = framed-le (ltb 0 p) w (treeOf (treeAt t depthLimit p)) in
       record {
         o = h .o ++ node t w p;
-        paging = subst⁻¹ (λ (v : ℕ). Paging t w (h .o ++ node t w p) (k + x) v) (f .0) (subst⁻¹ (λ (v : ℕ). Paging t w (h .o ++ node t w p) (k + v) (nextOf (treeAt t true depthLimit p))) (g .1) (step lt .1));
+        paging = subst⁻¹ (λ (v : ℕ). Paging t w (h .o ++ node t w p) (k + x) v) (f .0) (subst⁻¹ (λ (v : ℕ). Paging t w (h .o ++ node t w p) (k + v) (nextOf (treeAt t depthLimit p))) (g .1) (step lt .1));
         right = h .right;
         held = puts-both (h .o) (node t w p) b₀ b ys n l r (h .held) er (f .1);
         small = omega (arith, s .0, s .1, h .small, f .0, f .1 .0, z);
@@ -179,7 +179,7 @@ module _ {t : List ℕ} {w : ℕ} {b₀ b : List ℕ} {n k p : ℕ} (h : Pages t
         kept = lk ∙ h .kept;
       }
 
-  pub pages-end : length t ≤ p → Filled (page (treesOf (tableOf true t)) w) b₀ b × (k ≡ pageLooked (treesOf (tableOf true t)) w)
+  pub pages-end : length t ≤ p → Filled (page (treesOf (tableOf t)) w) b₀ b × (k ≡ pageLooked (treesOf (tableOf t)) w)
   pages-end l = let e = paging-end t w (h .o) k p (h .paging) l in (subst⁻¹ (λ (o : List ℕ). Filled o b₀ b) (e .0) (h .held .1), sym (e .1))
 
 -- ---- the answer
@@ -195,20 +195,20 @@ refused-of : (y : Result (Found Trees)) (w : ℕ) (r : Refusal) → Summed y w (
 refused-of (ok (found xs q)) w r s = absurd s
 refused-of (refused n a) w r s = rw (s .0, s .1) refl
 
-pub print-no : (t : List ℕ) (w : ℕ) (b : List ℕ) (x : Measured) (r : Refusal) → Summed (tableOf true t) w x → x ≡ No r → Answer t w b b (Refused r)
+pub print-no : (t : List ℕ) (w : ℕ) (b : List ℕ) (x : Measured) (r : Refusal) → Summed (tableOf t) w x → x ≡ No r → Answer t w b b (Refused r)
 unfolding printing printedInto
-print-no t w b x r s e = rw (refused-of (tableOf true t) w r (subst (Summed (tableOf true t) w) e s)) (refl, refl)
+print-no t w b x r s e = rw (refused-of (tableOf t) w r (subst (Summed (tableOf t) w) e s)) (refl, refl)
 
-module _ (t : List ℕ) (n w : ℕ) (b : List ℕ) (r : Right (tableOf true t)) (e : n ≡ length (page (treesOf (tableOf true t)) w)) where
-  short-of : (y : Result (Found Trees)) → Right y → n ≡ length (page (treesOf y) w) → tableOf true t ≡ y → length b < n → Answer t w b b (Refused (record { number = printRoom; place = n }))
+module _ (t : List ℕ) (n w : ℕ) (b : List ℕ) (r : Right (tableOf t)) (e : n ≡ length (page (treesOf (tableOf t)) w)) where
+  short-of : (y : Result (Found Trees)) → Right y → n ≡ length (page (treesOf y) w) → tableOf t ≡ y → length b < n → Answer t w b b (Refused (record { number = printRoom; place = n }))
   unfolding printing printedInto
   short-of (refused m c) ry f ey l = absurd ry
   short-of (ok (found xs q)) ry f ey l = rw (ey, lt-leb (length (page xs w)) (length b) (omega arith)) (ap (refused printRoom) f, refl)
 
   pub print-short : length b < n → Answer t w b b (Refused (record { number = printRoom; place = n }))
-  print-short l = short-of (tableOf true t) r e refl l
+  print-short l = short-of (tableOf t) r e refl l
 
-  text-of : (y : Result (Found Trees)) → Right y → n ≡ length (page (treesOf y) w) → tableOf true t ≡ y → n ≤ length b → (b′ : List ℕ) (k : ℕ)
+  text-of : (y : Result (Found Trees)) → Right y → n ≡ length (page (treesOf y) w) → tableOf t ≡ y → n ≤ length b → (b′ : List ℕ) (k : ℕ)
       → Filled (page (treesOf y) w) b b′ × (k ≡ pageLooked (treesOf y) w) → Answer t w b b′ (Text n k)
   unfolding printing printedInto
   text-of (refused m c) ry f ey l b′ k g = absurd ry
@@ -216,5 +216,5 @@ module _ (t : List ℕ) (n w : ℕ) (b : List ℕ) (r : Right (tableOf true t)) 
       let h : length (page xs w) ≤ length b = omega arith in
       rw (ey, le-leb (length (page xs w)) (length b) h) (ap (λ (j : ℕ). ok (text j k)) f ∙ ap (λ (j : ℕ). ok (text (length (page xs w)) j)) (g .1), g .0 h)
 
-  pub print-text : n ≤ length b → (b′ : List ℕ) (k : ℕ) → Filled (page (treesOf (tableOf true t)) w) b b′ × (k ≡ pageLooked (treesOf (tableOf true t)) w) → Answer t w b b′ (Text n k)
-  print-text l b′ k g = text-of (tableOf true t) r e refl l b′ k g
+  pub print-text : n ≤ length b → (b′ : List ℕ) (k : ℕ) → Filled (page (treesOf (tableOf t)) w) b b′ × (k ≡ pageLooked (treesOf (tableOf t)) w) → Answer t w b b′ (Text n k)
+  print-text l b′ k g = text-of (tableOf t) r e refl l b′ k g

@@ -75,4 +75,4 @@ unfoldable mutual
 
 -- at most 64 times the records in the table
 abbrev pub LookedBound : Type 0
-LookedBound = (t : List ℕ) (w : ℕ) (xs : Trees) (q : ℕ) → Bytes t → tableOf true t ≡ ok (found xs q) → pageLooked xs w ≤ depthLimit * nodesOf xs
+LookedBound = (t : List ℕ) (w : ℕ) (xs : Trees) (q : ℕ) → Bytes t → tableOf t ≡ ok (found xs q) → pageLooked xs w ≤ depthLimit * nodesOf xs

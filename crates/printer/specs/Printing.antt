@@ -1,6 +1,6 @@
 -- The answer of `print`, and the lent buffer after it (document 01, 'Numbers given instead of an answer').
 use Prim.Native.Nat.{ℕ}
-use mathlib.Core.Bool.{true, cond}
+use mathlib.Core.Bool.{cond}
 use mathlib.Core.List.{List}
 use lib.ListN.{length}
 use lib.Dec.{leb}
@@ -34,10 +34,10 @@ leaves (refused n a) w b = b
 
 -- printing a table at a width into a buffer of k bytes; and what the buffer b then holds
 unfoldable pub printing : List ℕ → ℕ → ℕ → Result Text
-printing t w k = answered (tableOf true t) w k
+printing t w k = answered (tableOf t) w k
 
 unfoldable pub printedInto : List ℕ → ℕ → List ℕ → List ℕ
-printedInto t w b = leaves (tableOf true t) w b
+printedInto t w b = leaves (tableOf t) w b
 
 -- document 01's number and values for each case of the answer's enum
 abbrev pub printOf : Printed → Result Text

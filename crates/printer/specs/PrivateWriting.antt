@@ -45,8 +45,8 @@ seen w i c x = looked x Wrap w i c
 -- where a tree may be laid: in a checked table, and the numbers are small
 abbrev pub Ready : List ℕ → ℕ → ℕ → ℕ → ℕ → ℕ → Type 0
 Ready t d at w i c =
-    (at ≤ length t) × (length t ≤ tableLimit) × (i + d ≤ depthLimit) × Right (treeAt t true d at)
-    × (c + length (laid w i c (treeOf (treeAt t true d at))) ≤ 4294967296)
+    (at ≤ length t) × (length t ≤ tableLimit) × (i + d ≤ depthLimit) × Right (treeAt t d at)
+    × (c + length (laid w i c (treeOf (treeAt t d at))) ≤ 4294967296)
 
 -- a tree and its LF, behind the LF between it and one before it
 abbrev pub framed : Bool → ℕ → Tree → List ℕ

@@ -3,7 +3,6 @@ use crate::atoms;
 use crate::room;
 use table::Record;
 ghost use mathlib.Core.Path.{_≡_};
-ghost use mathlib.Core.Bool.{true};
 ghost use Prim.Native.Nat.{_≤_};
 ghost use lib.ListN.{length};
 ghost use Rattle.refusals.specs.Numbers.{tableLimit, depthLimit};
@@ -32,8 +31,8 @@ fn symbol_at(t: &[u8], at: usize) -> usize
 
 // The tree at `at` of a checked table. A symbol in a list takes no call of its own.
 pub fn print_flat(t: &[u8], at: usize, depth: usize, out: &mut [u8]) -> Run
-    requires { ⌜ (at ≤ length (now t)) × (length (now t) ≤ tableLimit) × (depth ≤ depthLimit) × Right (treeAt (now t) true depth at) ⌝ }
-    ensures { λ r. ⌜ Written line (treeAt (now (t .entry)) true depth at) (r .next) (r .len) (now (out .entry)) (now (out .exit)) ⌝ }
+    requires { ⌜ (at ≤ length (now t)) × (length (now t) ≤ tableLimit) × (depth ≤ depthLimit) × Right (treeAt (now t) depth at) ⌝ }
+    ensures { λ r. ⌜ Written line (treeAt (now (t .entry)) depth at) (r .next) (r .len) (now (out .entry)) (now (out .exit)) ⌝ }
 {
     let node = table::record_at(t, at);
     match node {

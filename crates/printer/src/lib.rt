@@ -10,7 +10,6 @@ use measure::Measured;
 use refusals::Refusal;
 use table::Record;
 ghost use mathlib.Core.Path.{_≡_};
-ghost use mathlib.Core.Bool.{true};
 ghost use Prim.Native.Nat.{_≤_};
 ghost use lib.Dec.{ltb};
 ghost use lib.ListN.{length};
@@ -49,8 +48,8 @@ fn print_wrapped(
     out: &mut [u8],
 ) -> Laid
     requires { ⌜ Ready (now t) depth at width indent column ⌝ }
-    ensures { λ r. ⌜ Written (laid width indent column) (treeAt (now (t .entry)) true depth at) (r .next) (r .len) (now (out .entry)) (now (out .exit))
-        × (r .looked ≡ seen width indent column (treeOf (treeAt (now (t .entry)) true depth at))) ⌝ }
+    ensures { λ r. ⌜ Written (laid width indent column) (treeAt (now (t .entry)) depth at) (r .next) (r .len) (now (out .entry)) (now (out .exit))
+        × (r .looked ≡ seen width indent column (treeOf (treeAt (now (t .entry)) depth at))) ⌝ }
 {
     let node = table::record_at(t, at);
     match node {
@@ -138,9 +137,9 @@ fn print_wrapped(
 
 // A tree and its LF, and the LF between it and one before it.
 fn print_node(t: &[u8], at: usize, width: u32, out: &mut [u8]) -> Laid
-    requires { ⌜ (at ≤ length (now t)) × (length (now t) ≤ tableLimit) × Right (treeAt (now t) true depthLimit at) ⌝ }
-    ensures { λ r. ⌜ Written (framed (ltb 0 at) width) (treeAt (now (t .entry)) true depthLimit at) (r .next) (r .len) (now (out .entry)) (now (out .exit))
-        × (r .looked ≡ seen width 0 0 (treeOf (treeAt (now (t .entry)) true depthLimit at))) ⌝ }
+    requires { ⌜ (at ≤ length (now t)) × (length (now t) ≤ tableLimit) × Right (treeAt (now t) depthLimit at) ⌝ }
+    ensures { λ r. ⌜ Written (framed (ltb 0 at) width) (treeAt (now (t .entry)) depthLimit at) (r .next) (r .len) (now (out .entry)) (now (out .exit))
+        × (r .looked ≡ seen width 0 0 (treeOf (treeAt (now (t .entry)) depthLimit at))) ⌝ }
 {
     let w = room::put_unless(at == 0, b'\n', out);
     let rest = lists::least(w, out.len());
@@ -157,9 +156,9 @@ fn print_node(t: &[u8], at: usize, width: u32, out: &mut [u8]) -> Laid
 
 // All trees of a checked table, each in the rest of the room from its first free byte; the records that the fits test looked at.
 fn print_trees(t: &[u8], width: u32, out: &mut [u8]) -> usize
-    requires { ⌜ Right (tableOf true (now t)) ⌝ }
-    ensures { λ r. ⌜ Filled (page (treesOf (tableOf true (now (t .entry)))) width) (now (out .entry)) (now (out .exit))
-        × (r ≡ pageLooked (treesOf (tableOf true (now (t .entry)))) width) ⌝ }
+    requires { ⌜ Right (tableOf (now t)) ⌝ }
+    ensures { λ r. ⌜ Filled (page (treesOf (tableOf (now (t .entry)))) width) (now (out .entry)) (now (out .exit))
+        × (r ≡ pageLooked (treesOf (tableOf (now (t .entry)))) width) ⌝ }
 {
     let mut p = 0;
     let mut w = 0;

@@ -6,7 +6,6 @@ use records::HEAD;
 use refusals::Refusal;
 use table::Step;
 ghost use mathlib.Core.Path.{_≡_};
-ghost use mathlib.Core.Bool.{true};
 ghost use Prim.Native.Nat.{_+_, _*_, _≤_, _<_};
 ghost use lib.ListN.{length};
 ghost use Rattle.refusals.specs.Numbers.{tableLimit, depthLimit};
@@ -67,9 +66,9 @@ fn measure_tree(
     column: usize,
 ) -> Size
     requires { ⌜ (at ≤ length (now t)) × (length (now t) ≤ tableLimit) × (indent + depth ≤ depthLimit) × (column ≤ at + 4 * depthLimit) ⌝ }
-    ensures { λ r. ⌜ Sized (treeAt (now (t .entry)) true depth at) width indent column r ⌝ }
+    ensures { λ r. ⌜ Sized (treeAt (now (t .entry)) depth at) width indent column r ⌝ }
 {
-    let step = table::step_at(t, at, 0 < depth, true);
+    let step = table::step_at(t, at, 0 < depth);
     match step {
         Step::Fault(number) => stopped(number, at),
         Step::Symbol(len) => atom(at + len, len - HEAD),
@@ -108,7 +107,7 @@ fn measure_list(
     column: usize,
 ) -> Size
     requires { ⌜ (at ≤ length (now t)) × (length (now t) ≤ tableLimit) × (indent + 1 + depth ≤ depthLimit) × (column + 1 ≤ at + 4 * depthLimit) × (n < 4294967296) ⌝ }
-    ensures { λ r. ⌜ Sized (andThen (itemsAt (treeAt (now (t .entry)) true depth) n at) (λ xs q. ok (found (list xs) q))) width indent column r ⌝ }
+    ensures { λ r. ⌜ Sized (andThen (itemsAt (treeAt (now (t .entry)) depth) n at) (λ xs q. ok (found (list xs) q))) width indent column r ⌝ }
 {
     if n == 0 {
         return Size {
@@ -170,7 +169,7 @@ fn measure_list(
 
 // The bytes of the text of a table, or its refusal: 1, then the first in the order of its records.
 pub fn measure(t: &[u8], width: usize) -> Measured
-    ensures { λ r. ⌜ Summed (tableOf true (now (t .entry))) width r ⌝ }
+    ensures { λ r. ⌜ Summed (tableOf (now (t .entry))) width r ⌝ }
 {
     if refusals::TABLE_LIMIT < t.len() {
         return Measured::Refused(Refusal {

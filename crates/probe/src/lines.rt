@@ -52,7 +52,11 @@ pub fn number(page: &mut [u8; 65536], n: usize, x: usize) -> usize {
     bytes(page, n, &text[..k])
 }
 
+// In decimal, -2^127 too: what is shown is a token's value, and not the text that a print has for it.
 fn integer(page: &mut [u8; 65536], n: usize, w: Wide) -> usize {
+    if (w.hi == i64::MIN) & (w.lo == 0) {
+        return bytes(page, n, b"-170141183460469231731687303715884105728");
+    }
     let mut text = [0u8; 40];
     let k = within(wide::put_text(w, &mut text), &text);
     bytes(page, n, &text[..k])

@@ -94,7 +94,7 @@ fn answer(
         b'P' => tables::print(page, n, src, f.a, text, f.b),
         b'Q' => tables::print_counted(page, n, src, f.a, text, f.b),
         b'W' => tables::rewrite(page, n, src, f.a, table, text),
-        b'K' => tables::check(page, n, src, f.a == 1),
+        b'K' => tables::check(page, n, src),
         b'V' | b'v' => windowed::print(page, n, job(f), src, table),
         b'S' => settled::look_up(page, n, f.a, src, f.b),
         b'T' => settled::write_width(page, n, src, f.a, text, f.b),

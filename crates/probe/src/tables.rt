@@ -195,8 +195,9 @@ pub fn rewrite(
     }
 }
 
-pub fn check(page: &mut [u8; 65536], n: usize, t: &[u8], printing: bool) -> usize {
-    match table::check(t, printing) {
+// The frame's numbers make no difference.
+pub fn check(page: &mut [u8; 65536], n: usize, t: &[u8]) -> usize {
+    match table::check(t) {
         Checked::Good => lines::bytes(page, n, b"good\n"),
         Checked::Refused(r) => lines::refusal(page, n, r),
     }

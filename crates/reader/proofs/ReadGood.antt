@@ -12,7 +12,6 @@ use mir.Syntax.{w128}
 use mir.Val.{SFits}
 use borrow.Author.Tests.{ltb-false}
 use Rattle.lists.proofs.Places.{next, first}
-use Rattle.lists.proofs.Choice.{true-false}
 use Rattle.refusals.specs.Numbers.{sourceLimit, tableLimit, depthLimit, tooLong, pastSource}
 use Rattle.classes.specs.Classes.{classOf, symbolFirst, symbolOther}
 use Rattle.classes.specs.declared.Class.{Class}
@@ -160,4 +159,4 @@ read-good s xs e =
     let l = file-short s xs e in
     let g = goods xs s depthLimit (nextToken s 0) (ok end) (first-of s) w in
     let n : length (recordsOf xs) ≤ tableLimit = omega (arith, q .size) in
-    record { trees = g; small = n; accepted = complete false xs g (λ f. true-false (sym f)) n }
+    record { trees = g; small = n; accepted = complete xs g n }

@@ -1,6 +1,5 @@
 -- What is promised of what is read (document 01, 'Trees and their table'): a good table, the source's own tokens, and no source refused that is the text of trees.
 use mathlib.Core.Path.{_≡_}
-use mathlib.Core.Bool.{false}
 use mathlib.Core.List.{List}
 use Prim.Native.Nat.{ℕ, _≤_}
 use lib.ListN.{length}
@@ -17,7 +16,7 @@ use Rattle.reader.specs.Nesting.{NestedAll}
 pub record GoodTable (xs : Trees) : Type 0 where
   pub trees : Goods xs depthLimit
   pub small : length (recordsOf xs) ≤ tableLimit
-  pub accepted : tableOf false (recordsOf xs) ≡ ok (found xs (length (recordsOf xs)))
+  pub accepted : tableOf (recordsOf xs) ≡ ok (found xs (length (recordsOf xs)))
 
 -- what is read is a good table
 abbrev pub ReadGood : Type 0

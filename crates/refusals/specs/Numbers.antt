@@ -76,9 +76,7 @@ badRecord = 15
 abbrev pub badSymbol : ℕ
 badSymbol = 16
 
--- integer -2^127 at printing
-abbrev pub lowest : ℕ
-lowest = 17
+-- 17 is retired (document 02, 6/12): it is never given, and its number is not used again
 
 -- print needs more than the room lent
 abbrev pub printRoom : ℕ

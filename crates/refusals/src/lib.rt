@@ -48,7 +48,7 @@ pub const BAD_RECORD: u8 = 15;
 
 pub const BAD_SYMBOL: u8 = 16;
 
-pub const LOWEST: u8 = 17;
+// 17 is retired (document 02, 6/12): it is never given, and its number is not used again.
 
 pub const PRINT_ROOM: u8 = 18;
 

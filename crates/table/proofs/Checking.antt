@@ -1,6 +1,5 @@
 -- The answer of the check at each record, of the items of a list one by one, and of trees up to the table's end. Assumes nothing.
 use mathlib.Core.Path.{_≡_, refl, ap, sym, _∙_}
-use mathlib.Core.Bool.{Bool}
 use mathlib.Core.List.{List}
 use Prim.Native.Nat.{ℕ, _+_, _-_, _≤_, _<_}
 use native.Mathlib.Omega.{arith}
@@ -39,41 +38,41 @@ refusal-of : (y : Result (Found Tree)) (r : Refusal) → Stopped r ≡ walkOf y 
 refusal-of (ok (found z q)) r e = cc
 refusal-of (refused n a) r e = let er : _≡_ {A = Refusal} (record { number = n; place = a }) r = cc in rw (← er) refl
 
-module _ (t : List ℕ) (w : Bool) (d p : ℕ) (x : Walked) (e : x ≡ walkOf (treeAt t w d p)) where
-  pub passed : (q : ℕ) → x ≡ Past q → Passed (treeAt t w d p) q
-  passed q e′ = passed-of (treeAt t w d p) q (sym e′ ∙ e)
+module _ (t : List ℕ) (d p : ℕ) (x : Walked) (e : x ≡ walkOf (treeAt t d p)) where
+  pub passed : (q : ℕ) → x ≡ Past q → Passed (treeAt t d p) q
+  passed q e′ = passed-of (treeAt t d p) q (sym e′ ∙ e)
 
-  pub refusal : (r : Refusal) → x ≡ Stopped r → treeAt t w d p ≡ refused (r .number) (r .place)
-  refusal r e′ = refusal-of (treeAt t w d p) r (sym e′ ∙ e)
+  pub refusal : (r : Refusal) → x ≡ Stopped r → treeAt t d p ≡ refused (r .number) (r .place)
+  refusal r e′ = refusal-of (treeAt t d p) r (sym e′ ∙ e)
 
-  pub past-is : (q : ℕ) → x ≡ Past q → q ≡ pastOf p (treeAt t w d p)
+  pub past-is : (q : ℕ) → x ≡ Past q → q ≡ pastOf p (treeAt t d p)
   past-is q e′ = sym (ap (pastOf p) (passed q e′ .is))
 
-  pub past-none : (r : Refusal) → x ≡ Stopped r → p ≡ pastOf p (treeAt t w d p)
+  pub past-none : (r : Refusal) → x ≡ Stopped r → p ≡ pastOf p (treeAt t d p)
   past-none r e′ = sym (ap (pastOf p) (refusal r e′))
 
 -- ---- a judged record s
 
-module _ (t : List ℕ) (w : Bool) (d at : ℕ) (s : Step) (e : s ≡ stepAt t w at (ltb 0 d)) where
-  pub at-fault : (n : ℕ) → s ≡ step.Fault n → Stopped (record { number = n; place = at }) ≡ walkOf (treeAt t w d at)
-  at-fault n e′ = sym (ap walkOf (step-tree t w d at s (step.Fault n) e e′))
+module _ (t : List ℕ) (d at : ℕ) (s : Step) (e : s ≡ stepAt t at (ltb 0 d)) where
+  pub at-fault : (n : ℕ) → s ≡ step.Fault n → Stopped (record { number = n; place = at }) ≡ walkOf (treeAt t d at)
+  at-fault n e′ = sym (ap walkOf (step-tree t d at s (step.Fault n) e e′))
 
-  pub at-symbol : (len : ℕ) → s ≡ step.Symbol len → Past (at + len) ≡ walkOf (treeAt t w d at)
-  at-symbol len e′ = sym (ap walkOf (step-tree t w d at s (step.Symbol len) e e′))
+  pub at-symbol : (len : ℕ) → s ≡ step.Symbol len → Past (at + len) ≡ walkOf (treeAt t d at)
+  at-symbol len e′ = sym (ap walkOf (step-tree t d at s (step.Symbol len) e e′))
 
-  pub at-integer : s ≡ step.Integer → Past (at + integerLen) ≡ walkOf (treeAt t w d at)
-  at-integer e′ = sym (ap walkOf (step-tree t w d at s step.Integer e e′))
+  pub at-integer : s ≡ step.Integer → Past (at + integerLen) ≡ walkOf (treeAt t d at)
+  at-integer e′ = sym (ap walkOf (step-tree t d at s step.Integer e e′))
 
-  pub at-binding : (len : ℕ) → s ≡ step.Binding len → walkOf (treeAt t w (d - 1) (at + len)) ≡ walkOf (treeAt t w d at)
-  at-binding len e′ = sym (ap walkOf (step-tree t w d at s (step.Binding len) e e′) ∙ walk-map _ (treeAt t w (d - 1) (at + len)))
+  pub at-binding : (len : ℕ) → s ≡ step.Binding len → walkOf (treeAt t (d - 1) (at + len)) ≡ walkOf (treeAt t d at)
+  at-binding len e′ = sym (ap walkOf (step-tree t d at s (step.Binding len) e e′) ∙ walk-map _ (treeAt t (d - 1) (at + len)))
 
-  at-items : (n : ℕ) → s ≡ step.List n → walkOf (treeAt t w d at) ≡ walkOf (itemsAt (treeAt t w (d - 1)) n (at + listLen))
-  at-items n e′ = ap walkOf (step-tree t w d at s (step.List n) e e′) ∙ walk-map _ (itemsAt (treeAt t w (d - 1)) n (at + listLen))
+  at-items : (n : ℕ) → s ≡ step.List n → walkOf (treeAt t d at) ≡ walkOf (itemsAt (treeAt t (d - 1)) n (at + listLen))
+  at-items n e′ = ap walkOf (step-tree t d at s (step.List n) e e′) ∙ walk-map _ (itemsAt (treeAt t (d - 1)) n (at + listLen))
 
-  pub at-list : (n k p : ℕ) → s ≡ step.List n → Gone (treeAt t w (d - 1)) n (at + listLen) k p → n ≤ k → Past p ≡ walkOf (treeAt t w d at)
+  pub at-list : (n k p : ℕ) → s ≡ step.List n → Gone (treeAt t (d - 1)) n (at + listLen) k p → n ≤ k → Past p ≡ walkOf (treeAt t d at)
   at-list n k p e′ g h = sym (at-items n e′ ∙ ap walkOf (gone-end _ n (at + listLen) k p g h))
 
-  pub at-stop : (n k p : ℕ) (r : Refusal) (x : Walked) → s ≡ step.List n → Gone (treeAt t w (d - 1)) n (at + listLen) k p → k < n
-      → x ≡ walkOf (treeAt t w (d - 1) p) → x ≡ Stopped r → Stopped r ≡ walkOf (treeAt t w d at)
+  pub at-stop : (n k p : ℕ) (r : Refusal) (x : Walked) → s ≡ step.List n → Gone (treeAt t (d - 1)) n (at + listLen) k p → k < n
+      → x ≡ walkOf (treeAt t (d - 1) p) → x ≡ Stopped r → Stopped r ≡ walkOf (treeAt t d at)
   at-stop n k p r x e′ g h f f′ =
-      sym (at-items n e′ ∙ ap walkOf (gone-stop _ n (at + listLen) k p g (r .number) (r .place) h (refusal t w (d - 1) p x f r f′)))
+      sym (at-items n e′ ∙ ap walkOf (gone-stop _ n (at + listLen) k p g (r .number) (r .place) h (refusal t (d - 1) p x f r f′)))

@@ -1,6 +1,6 @@
 -- What was found is found again where more may be open: why `table::past` serves at any depth. Assumes nothing.
 use mathlib.Core.Path.{_≡_, refl, ap, subst}
-use mathlib.Core.Bool.{Bool, true, false}
+use mathlib.Core.Bool.{true, false}
 use mathlib.Core.List.{List}
 use Prim.Native.Nat.{ℕ, zero, suc, _+_, _-_, _≤_}
 use native.Mathlib.Omega.{arith}
@@ -54,34 +54,34 @@ module _ (f g : ℕ → Result (Found Tree)) (h : More f g) where
       by (refused m a) u k = let z : _≡_ {A = ℕ} 0 1 = cc in absurd (omega arith)
 
 -- a record that has no fault where nothing more may be open has none where more may be
-opened : (t : List ℕ) (w : Bool) (at : ℕ) (f : ℕ → Result (Found Tree)) (x : Tree) (q : ℕ) → ofStep t at f (stepAt t w at false) ≡ ok (found x q)
-    → stepAt t w at true ≡ stepAt t w at false
+opened : (t : List ℕ) (at : ℕ) (f : ℕ → Result (Found Tree)) (x : Tree) (q : ℕ) → ofStep t at f (stepAt t at false) ≡ ok (found x q)
+    → stepAt t at true ≡ stepAt t at false
 unfolding stepAt
-opened t w at f x q e = by (recordAt t at) e
+opened t at f x q e = by (recordAt t at) e
   where
-    by : (y : Record) → ofStep t at f (stepOf t w at false y) ≡ ok (found x q) → stepOf t w at true y ≡ stepOf t w at false y
+    by : (y : Record) → ofStep t at f (stepOf t at false y) ≡ ok (found x q) → stepOf t at true y ≡ stepOf t at false y
     by (Bad n) k = refl
     by (Symbol len) k = refl
     by Integer k = refl
     by (Binding len) k = let z : _≡_ {A = ℕ} 0 1 = cc in absurd (omega arith)
     by (ListOf n) k = let z : _≡_ {A = ℕ} 0 1 = cc in absurd (omega arith)
 
-one-deeper : (t : List ℕ) (w : Bool) (d : ℕ) → More (treeAt t w d) (treeAt t w (suc d))
+one-deeper : (t : List ℕ) (d : ℕ) → More (treeAt t d) (treeAt t (suc d))
 unfolding treeAt
-one-deeper t w zero at x q e =
-    rw (opened t w at (refused tooDeep) x q e) (step-again (refused tooDeep) (treeAt t w 0) (λ p y r u. absurd (none u)) t at (stepAt t w at false) x q e)
+one-deeper t zero at x q e =
+    rw (opened t at (refused tooDeep) x q e) (step-again (refused tooDeep) (treeAt t 0) (λ p y r u. absurd (none u)) t at (stepAt t at false) x q e)
   where
     none : {m a r : ℕ} {y : Tree} → _≡_ {A = Result (Found Tree)} (refused m a) (ok (found y r)) → ⊥
     none u = let z : _≡_ {A = ℕ} 0 1 = cc in omega arith
-one-deeper t w (suc d) at x q e = step-again (treeAt t w d) (treeAt t w (suc d)) (one-deeper t w d) t at (stepAt t w at true) x q e
+one-deeper t (suc d) at x q e = step-again (treeAt t d) (treeAt t (suc d)) (one-deeper t d) t at (stepAt t at true) x q e
 
-pub tree-deeper : (t : List ℕ) (w : Bool) (d k at q : ℕ) (x : Tree) → treeAt t w d at ≡ ok (found x q) → treeAt t w (k + d) at ≡ ok (found x q)
-tree-deeper t w d zero at q x e = let z : 0 + d ≡ d = omega arith in rw z e
-tree-deeper t w d (suc k) at q x e = let z : suc k + d ≡ suc (k + d) = omega arith in rw z (one-deeper t w (k + d) at x q (tree-deeper t w d k at q x e))
+pub tree-deeper : (t : List ℕ) (d k at q : ℕ) (x : Tree) → treeAt t d at ≡ ok (found x q) → treeAt t (k + d) at ≡ ok (found x q)
+tree-deeper t d zero at q x e = let z : 0 + d ≡ d = omega arith in rw z e
+tree-deeper t d (suc k) at q x e = let z : suc k + d ≡ suc (k + d) = omega arith in rw z (one-deeper t (k + d) at x q (tree-deeper t d k at q x e))
 
 -- in a table without faults, `past` is the place past the tree at any place where one stands
-pub past-found : (t : List ℕ) (d at q : ℕ) (x : Tree) → d ≤ depthLimit → treeAt t false d at ≡ ok (found x q) → pastOf at (treeAt t false depthLimit at) ≡ q
+pub past-found : (t : List ℕ) (d at q : ℕ) (x : Tree) → d ≤ depthLimit → treeAt t d at ≡ ok (found x q) → pastOf at (treeAt t depthLimit at) ≡ q
 past-found t d at q x h e =
     let z : depthLimit - d + d ≡ depthLimit = omega arith in
-    let k : treeAt t false depthLimit at ≡ ok (found x q) = subst (λ (j : ℕ). treeAt t false j at ≡ ok (found x q)) z (tree-deeper t false d (depthLimit - d) at q x e) in
+    let k : treeAt t depthLimit at ≡ ok (found x q) = subst (λ (j : ℕ). treeAt t j at ≡ ok (found x q)) z (tree-deeper t d (depthLimit - d) at q x e) in
     ap (pastOf at) k

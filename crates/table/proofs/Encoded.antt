@@ -1,6 +1,5 @@
 -- The records of good trees, where they stand, are found as those trees. Assumes nothing.
 use mathlib.Core.Path.{_≡_, refl, ap, sym, subst, _∙_}
-use mathlib.Core.Bool.{Bool, true}
 use mathlib.Core.List.{List, _++_}
 use Prim.Native.Nat.{ℕ, suc, _+_, _-_, _≤_}
 use native.Mathlib.Omega.{arith}
@@ -19,8 +18,7 @@ use Rattle.table.specs.Kinds.{symbolKind, integerKind, bindingKind, list
 use Rattle.table.specs.Trees.{Tree, Trees, symbol, integer, binding, list, none, more, count, Good, Goods, records, recordsOf}
 use Rattle.table.specs.Records.{Symbol, Integer, Binding, ListOf}
 use Rattle.table.specs.Decoding.{Found, found, itemsAt, treeAt}
-use Rattle.table.specs.Printable.{Printable, Printables}
-use Rattle.table.proofs.Integers.{fits-range, spared}
+use Rattle.table.proofs.Integers.{fits-range}
 use Rattle.lists.proofs.Stands.{Stands, stands-left, stands-right, stands-length}
 use Rattle.table.proofs.Reading.{tree-of}
 use Rattle.table.proofs.Heads.{symbol-read, binding-read, integer-read, list-read, integer-stood, list-stood, bits-read}
@@ -38,29 +36,29 @@ unfolding itemsAt
 items-none f p = ap (λ (z : ℕ). ok (found none z)) (omega arith)
 
 mutual
-  unfolding records Good Printable
+  unfolding records Good
 
-  pub tree-is : (x : Tree) (t : List ℕ) (w : Bool) (d p : ℕ) → Good x d → (w ≡ true → Printable x) → p ≤ length t → Stands t p (records x)
-      → treeAt t w d p ≡ ok (found x (p + length (records x)))
-  tree-is (symbol n) t w d p g pr hp s =
+  pub tree-is : (x : Tree) (t : List ℕ) (d p : ℕ) → Good x d → p ≤ length t → Stands t p (records x)
+      → treeAt t d p ≡ ok (found x (p + length (records x)))
+  tree-is (symbol n) t d p g hp s =
       let h = stood t p symbolKind n hp (lit< tt) (g .1) s in
-      tree-of t w d p (Symbol (length n + headLen)) (symbol-read t p n h)
+      tree-of t d p (Symbol (length n + headLen)) (symbol-read t p n h)
       ∙ rw (stood-payload t p symbolKind n h, g .0, stood-payload t p symbolKind n h, length-record symbolKind n) refl
-  tree-is (integer z) t w d p g pr hp s =
+  tree-is (integer z) t d p g hp s =
       let h = integer-stood t p z hp s in
       let n : numberAt 16 t (p + headLen) ≡ ofZ w128 z =
       bits-read z t p h ∙ number-le 16 (ofZ w128 z) ((ofZ-fits w128 z (fits-range z g)) .fits) in
-      tree-of t w d p Integer (integer-read t p (wideBytes z) (wide-length z) h)
-      ∙ rw (n, spared w z g pr, n, toZ-ofZ w128 z (fits-range z g), length-record integerKind (wideBytes z), wide-length z) refl
-  tree-is (binding n x) t w d p g pr hp s =
+      tree-of t d p Integer (integer-read t p (wideBytes z) (wide-length z) h)
+      ∙ rw (n, toZ-ofZ w128 z (fits-range z g), length-record integerKind (wideBytes z), wide-length z) refl
+  tree-is (binding n x) t d p g hp s =
       let a = stands-left t p (record-of bindingKind n) (records x) s in
       let h = stood t p bindingKind n hp (lit< tt) (g .2) a in
       let b : Stands t (p + (length n + headLen)) (records x) =
       subst (λ (k : ℕ). Stands t (p + k) (records x)) (length-record bindingKind n) (stands-right t p (record-of bindingKind n) (records x) s) in
-      tree-of t w d p (Binding (length n + headLen)) (binding-read t p n h)
-      ∙ rw (lt-ltb 0 d (g .0), stood-payload t p bindingKind n h, g .1, stood-payload t p bindingKind n h, tree-is x t w (d - 1) (p + (length n + headLen)) (g .3) pr (omega (arith, h .room)) b)
+      tree-of t d p (Binding (length n + headLen)) (binding-read t p n h)
+      ∙ rw (lt-ltb 0 d (g .0), stood-payload t p bindingKind n h, g .1, stood-payload t p bindingKind n h, tree-is x t (d - 1) (p + (length n + headLen)) (g .3) (omega (arith, h .room)) b)
       (ap (λ (z : ℕ). ok (found (binding n x) z)) (past-record bindingKind p n (records x)))
-  tree-is (list xs) t w d p g pr hp s =
+  tree-is (list xs) t d p g hp s =
       let c : List ℕ = le 4 (count xs) in
       let e4 : length c ≡ 4 = le-length 4 (count xs) in
       let h = list-stood t p (count xs) hp (stands-left t p (record-of listKind c) (recordsOf xs) s) in
@@ -68,17 +66,17 @@ mutual
       subst (λ (k : ℕ). Stands t (p + k) (recordsOf xs)) (length-record listKind c ∙ ap (λ (k : ℕ). k + headLen) e4) (stands-right t p (record-of listKind c) (recordsOf xs) s) in
       let q : p + listLen + length (recordsOf xs) ≡ p + length (record-of listKind c ++ recordsOf xs) =
       ap (λ (k : ℕ). p + (k + headLen) + length (recordsOf xs)) (sym e4) ∙ past-record listKind p c (recordsOf xs) in
-      tree-of t w d p (ListOf (count xs)) (list-read t p (count xs) (g .1) h)
-      ∙ rw (lt-ltb 0 d (g .0), trees-are xs t w (d - 1) (p + listLen) (g .2) pr (omega (arith, h .room)) b) (ap (λ (z : ℕ). ok (found (list xs) z)) q)
+      tree-of t d p (ListOf (count xs)) (list-read t p (count xs) (g .1) h)
+      ∙ rw (lt-ltb 0 d (g .0), trees-are xs t (d - 1) (p + listLen) (g .2) (omega (arith, h .room)) b) (ap (λ (z : ℕ). ok (found (list xs) z)) q)
 
-  pub trees-are : (xs : Trees) (t : List ℕ) (w : Bool) (d p : ℕ) → Goods xs d → (w ≡ true → Printables xs) → p ≤ length t
-      → Stands t p (recordsOf xs) → itemsAt (treeAt t w d) (count xs) p ≡ ok (found xs (p + length (recordsOf xs)))
-  trees-are none t w d p g pr hp s = items-none (treeAt t w d) p
-  trees-are (more x xs) t w d p g pr hp s =
+  pub trees-are : (xs : Trees) (t : List ℕ) (d p : ℕ) → Goods xs d → p ≤ length t
+      → Stands t p (recordsOf xs) → itemsAt (treeAt t d) (count xs) p ≡ ok (found xs (p + length (recordsOf xs)))
+  trees-are none t d p g hp s = items-none (treeAt t d) p
+  trees-are (more x xs) t d p g hp s =
       let a = stands-left t p (records x) (recordsOf xs) s in
       let b = stands-right t p (records x) (recordsOf xs) s in
       let q : p + length (records x) + length (recordsOf xs) ≡ p + length (records x ++ recordsOf xs) = simp length-append (omega arith) in
-      items-more (treeAt t w d) (count xs) p x (p + length (records x)) xs _
-      (tree-is x t w d p (g .0) (λ e. (pr e) .0) hp a)
-      (trees-are xs t w d (p + length (records x)) (g .1) (λ e. (pr e) .1) (stands-length t p (records x) hp a) b)
+      items-more (treeAt t d) (count xs) p x (p + length (records x)) xs _
+      (tree-is x t d p (g .0) hp a)
+      (trees-are xs t d (p + length (records x)) (g .1) (stands-length t p (records x) hp a) b)
       ∙ ap (λ (z : ℕ). ok (found (more x xs) z)) q

@@ -1,42 +1,54 @@
--- THEOREM fault-placed: 22 and no other fault is told at the table's length. Assumes nothing.
-use Prim.Native.Nat.{ℕ, zero, suc, _+_, _≤_}
-use mathlib.Core.Path.{_≡_, subst}
+-- THEOREMS fault-placed and fault-numbered: where a table's faults are told, and their numbers. Assumes nothing.
+use Prim.Native.Nat.{ℕ, zero, suc, _+_, _≤_, _<_}
+use mathlib.Core.Path.{_≡_, sym, subst, _∙_}
+use mathlib.Core.Bool.{true}
+use mathlib.Core.Logic.{_⊎_, inl, inr, ⊎-elim}
 use mathlib.Core.List.{List}
-use mathlib.Core.Bool.{Bool}
 use native.Mathlib.Omega.{arith}
 use lib.Dec.{ltb}
 use lib.ListN.{length}
 use borrow.Author.Tests.{le-ltb}
 use Rattle.lists.proofs.Choice.{pick}
-use Rattle.refusals.specs.Numbers.{tableLimit, depthLimit}
+use Rattle.refusals.specs.Numbers.{tableLimit, depthLimit, tooLong}
 use Rattle.refusals.specs.Result.{Result, ok, refused}
 use Rattle.table.specs.Trees.{Tree, Trees, more}
 use Rattle.table.specs.Decoding.{Found, found, andThen, treeAt, treesAt, tableOf}
-use Rattle.table.specs.Faults.{FaultPlaced}
+use Rattle.table.specs.Faults.{FaultPlaced, isFault, FaultNumbered}
+use Rattle.wide.proofs.TwoLimbs.{which}
 use Rattle.table.proofs.Reading.{Told, Ends, tree-end}
+use Rattle.table.proofs.Steps.{too-long}
 
 -- what is refused of whole trees is told so, as it is of one
 abbrev Answers : ℕ → Result (Found Trees) → Type 0
 Answers len (ok x) = Unit {0}
 Answers len (refused n a) = Told len n a
 
-trees-told : (t : List ℕ) (w : Bool) (k at : ℕ) → at ≤ length t → Answers (length t) (treesAt t w k at)
+trees-told : (t : List ℕ) (k at : ℕ) → at ≤ length t → Answers (length t) (treesAt t k at)
 unfolding treesAt
-trees-told t w zero at h = tt
-trees-told t w (suc k) at h =
-    pick (Answers (length t)) (ltb at (length t)) (λ _. first (treeAt t w depthLimit at) (tree-end t w depthLimit at h) (trees-told t w k)) (λ _. tt)
+trees-told t zero at h = tt
+trees-told t (suc k) at h =
+    pick (Answers (length t)) (ltb at (length t)) (λ _. first (treeAt t depthLimit at) (tree-end t depthLimit at h) (trees-told t k)) (λ _. tt)
   where
     last : (x : Tree) (y : Result (Found Trees)) → Answers (length t) y → Answers (length t) (andThen y (λ xs r. ok (found (more x xs) r)))
     last x (ok (found xs r)) g = tt
     last x (refused n a) g = g
 
-    first : (y : Result (Found Tree)) → Ends (at + 1) (length t) y → ((q : ℕ) → q ≤ length t → Answers (length t) (treesAt t w k q))
-        → Answers (length t) (andThen y (λ x q. andThen (treesAt t w k q) (λ xs r. ok (found (more x xs) r))))
-    first (ok (found x q)) e ih = last x (treesAt t w k q) (ih q (e .1))
+    first : (y : Result (Found Tree)) → Ends (at + 1) (length t) y → ((q : ℕ) → q ≤ length t → Answers (length t) (treesAt t k q))
+        → Answers (length t) (andThen y (λ x q. andThen (treesAt t k q) (λ xs r. ok (found (more x xs) r))))
+    first (ok (found x q)) e ih = last x (treesAt t k q) (ih q (e .1))
     first (refused n a) e ih = e
 
-pub fault-placed : FaultPlaced
+told : (t : List ℕ) (n a : ℕ) → length t ≤ tableLimit → tableOf t ≡ refused n a → Told (length t) n a
 unfolding tableOf
-fault-placed w t n a h e =
-    let z : treesAt t w (length t + 1) 0 ≡ refused n a = rw (le-ltb tableLimit (length t) h) at e in
-    subst (Answers (length t)) z (trees-told t w (length t + 1) 0 (omega arith))
+told t n a h e =
+    let z : treesAt t (length t + 1) 0 ≡ refused n a = rw (le-ltb tableLimit (length t) h) at e in
+    subst (Answers (length t)) z (trees-told t (length t + 1) 0 (omega arith))
+
+pub fault-placed : FaultPlaced
+fault-placed t n a h e = let k = told t n a h e in (k .0, k .1, k .2)
+
+pub fault-numbered : FaultNumbered
+fault-numbered t n a e = ⊎-elim long (λ h. inr (told t n a h e .3)) (which tableLimit (length t))
+  where
+    long : tableLimit < length t → (n ≡ tooLong) ⊎ (isFault n ≡ true)
+    long h = let z : refused tooLong tableLimit ≡ refused n a = sym (too-long t h) ∙ e in inl cc

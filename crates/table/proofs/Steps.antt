@@ -19,11 +19,11 @@ use Rattle.table.proofs.Reading.{symbol-in, Ends, StepIn, judged-in, tr
 
 -- ---- a record that was judged as r
 
-pub step-tree : (t : List ℕ) (w : Bool) (d at : ℕ) (s r : Step) → s ≡ stepAt t w at (ltb 0 d) → s ≡ r → treeAt t w d at ≡ ofStep t at (treeAt t w (d - 1)) r
-step-tree t w d at s r e e′ = tree-step t w d at ∙ ap (ofStep t at (treeAt t w (d - 1))) (sym e ∙ e′)
+pub step-tree : (t : List ℕ) (d at : ℕ) (s r : Step) → s ≡ stepAt t at (ltb 0 d) → s ≡ r → treeAt t d at ≡ ofStep t at (treeAt t (d - 1)) r
+step-tree t d at s r e e′ = tree-step t d at ∙ ap (ofStep t at (treeAt t (d - 1))) (sym e ∙ e′)
 
-pub step-in : (t : List ℕ) (w : Bool) (d at : ℕ) (s r : Step) → s ≡ stepAt t w at (ltb 0 d) → s ≡ r → StepIn t w d at r
-step-in t w d at s r e e′ = subst (StepIn t w d at) (sym e ∙ e′) (judged-in t w d at)
+pub step-in : (t : List ℕ) (d at : ℕ) (s r : Step) → s ≡ stepAt t at (ltb 0 d) → s ≡ r → StepIn t d at r
+step-in t d at s r e e′ = subst (StepIn t d at) (sym e ∙ e′) (judged-in t d at)
 
 -- ---- a record that was read as y, judged
 
@@ -33,9 +33,9 @@ then-is b b′ x y e h = rw (← e, h) refl
 pub else-is : {A : Type 0} (b b′ : Bool) (x y : A) → b ≡ b′ → b ≡ false → y ≡ cond b′ x y
 else-is b b′ x y e h = rw (← e, h) refl
 
-pub judged-is : (t : List ℕ) (w : Bool) (at : ℕ) (o : Bool) (x y : Record) (s : Step) → x ≡ recordAt t at → x ≡ y → s ≡ stepOf t w at o y → s ≡ stepAt t w at o
+pub judged-is : (t : List ℕ) (at : ℕ) (o : Bool) (x y : Record) (s : Step) → x ≡ recordAt t at → x ≡ y → s ≡ stepOf t at o y → s ≡ stepAt t at o
 unfolding stepAt
-judged-is t w at o x y s e e′ f = f ∙ ap (stepOf t w at o) (sym e′ ∙ e)
+judged-is t at o x y s e e′ f = f ∙ ap (stepOf t at o) (sym e′ ∙ e)
 
 pub symbol-is : (t : List ℕ) (at : ℕ) (x y : Record) (r : ℕ) → x ≡ recordAt t at → x ≡ y → r ≡ pastName t at y → r ≡ pastSymbol t at
 unfolding pastSymbol
@@ -58,21 +58,21 @@ symbol-from t at q e = rw e (by (recordAt t at))
     by (Bad n) = omega arith
 
 -- where `past_symbol` goes on, a good symbol stands
-pub symbol-there : (t : List ℕ) (w : Bool) (d at q : ℕ) → q ≡ pastSymbol t at → at < q
-    → (headLen ≤ q - at) × (q - at ≤ length t - at) × (treeAt t w d at ≡ ok (found (symbol (payload t at (q - at))) q))
+pub symbol-there : (t : List ℕ) (d at q : ℕ) → q ≡ pastSymbol t at → at < q
+    → (headLen ≤ q - at) × (q - at ≤ length t - at) × (treeAt t d at ≡ ok (found (symbol (payload t at (q - at))) q))
 unfolding pastSymbol
-symbol-there t w d at q e l = by (recordAt t at) refl e
+symbol-there t d at q e l = by (recordAt t at) refl e
   where
     named : (len : ℕ) (b : Bool) → recordAt t at ≡ Symbol len → isSymbol (payload t at len) ≡ b → q ≡ cond b (at + len) at
-        → (headLen ≤ q - at) × (q - at ≤ length t - at) × (treeAt t w d at ≡ ok (found (symbol (payload t at (q - at))) q))
+        → (headLen ≤ q - at) × (q - at ≤ length t - at) × (treeAt t d at ≡ ok (found (symbol (payload t at (q - at))) q))
     named len false f g k = absurd (omega arith)
     named len true f g k =
         let h = symbol-in t at len (recordAt t at) refl f in
         let z : q - at ≡ len = omega arith in
-        rw (z, k) (h .0, h .1, tree-of t w d at (Symbol len) (sym f) ∙ rw g refl)
+        rw (z, k) (h .0, h .1, tree-of t d at (Symbol len) (sym f) ∙ rw g refl)
 
     by : (x : Record) → recordAt t at ≡ x → q ≡ pastName t at x
-        → (headLen ≤ q - at) × (q - at ≤ length t - at) × (treeAt t w d at ≡ ok (found (symbol (payload t at (q - at))) q))
+        → (headLen ≤ q - at) × (q - at ≤ length t - at) × (treeAt t d at ≡ ok (found (symbol (payload t at (q - at))) q))
     by (Symbol len) f k = named len (isSymbol (payload t at len)) f refl k
     by Integer f k = absurd (omega arith)
     by (Binding len) f k = absurd (omega arith)
@@ -80,8 +80,8 @@ symbol-there t w d at q e l = by (recordAt t at) refl e
     by (Bad n) f k = absurd (omega arith)
 
 -- a tree that is found ends past its place and within the table
-pub found-in : (t : List ℕ) (w : Bool) (d p q : ℕ) (x : Tree) → p ≤ length t → treeAt t w d p ≡ ok (found x q) → (p < q) × (q ≤ length t)
-found-in t w d p q x h e = let g = subst (Ends (p + 1) (length t)) e (tree-end t w d p h) in (omega arith, g .1)
+pub found-in : (t : List ℕ) (d p q : ℕ) (x : Tree) → p ≤ length t → treeAt t d p ≡ ok (found x q) → (p < q) × (q ≤ length t)
+found-in t d p q x h e = let g = subst (Ends (p + 1) (length t)) e (tree-end t d p h) in (omega arith, g .1)
 
 -- ---- the items of a list: k of the n from `at` are done, and p is past them
 
@@ -132,66 +132,66 @@ module _ (f : ℕ → Result (Found Tree)) (n at k p : ℕ) (g : Gone f n at k p
 
 -- ---- trees up to the table's end: those before p are done, and k is fuel enough
 
-pub record Read (t : List ℕ) (w : Bool) (p : ℕ) : Type 0 where
+pub record Read (t : List ℕ) (p : ℕ) : Type 0 where
   pub k : ℕ
   pub enough : length t < k + p
   -- the trees done, before those that are left
   pub pre : Trees → Trees
-  pub whole : tableOf w t ≡ andThen (treesAt t w k p) (λ ys q. ok (found (pre ys) q))
+  pub whole : tableOf t ≡ andThen (treesAt t k p) (λ ys q. ok (found (pre ys) q))
   pub within : p ≤ length t
   pub limit : length t ≤ tableLimit
 
-pub too-long : (t : List ℕ) (w : Bool) → tableLimit < length t → tableOf w t ≡ refused tooLong tableLimit
+pub too-long : (t : List ℕ) → tableLimit < length t → tableOf t ≡ refused tooLong tableLimit
 unfolding tableOf
-too-long t w h = rw (lt-ltb tableLimit (length t) h) refl
+too-long t h = rw (lt-ltb tableLimit (length t) h) refl
 
-pub read-whole : (t : List ℕ) (w : Bool) → length t ≤ tableLimit → tableOf w t ≡ andThen (treesAt t w (length t + 1) 0) (λ ys q. ok (found ys q))
+pub read-whole : (t : List ℕ) → length t ≤ tableLimit → tableOf t ≡ andThen (treesAt t (length t + 1) 0) (λ ys q. ok (found ys q))
 unfolding tableOf
-read-whole t w h = rw (le-ltb tableLimit (length t) h) (all-of (treesAt t w (length t + 1) 0))
+read-whole t h = rw (le-ltb tableLimit (length t) h) (all-of (treesAt t (length t + 1) 0))
 
-abbrev pub read-begin : (t : List ℕ) (w : Bool) → length t ≤ tableLimit → Read t w 0
-read-begin t w h = record { k = length t + 1; enough = omega arith; pre = λ ys. ys; whole = read-whole t w h; within = omega arith; limit = h }
+abbrev pub read-begin : (t : List ℕ) → length t ≤ tableLimit → Read t 0
+read-begin t h = record { k = length t + 1; enough = omega arith; pre = λ ys. ys; whole = read-whole t h; within = omega arith; limit = h }
 
-module _ (t : List ℕ) (w : Bool) (p : ℕ) (g : Read t w p) where
+module _ (t : List ℕ) (p : ℕ) (g : Read t p) where
   -- `pre` of what is left after one tree more, and where that ends
   pub record Onward (x : Tree) (q : ℕ) : Type 0 where
     pub past : p < q
-    pub rest : Read t w q
+    pub rest : Read t q
     pub pre-is : (ys : Trees) → rest .pre ys ≡ g .pre (more x ys)
 
-  pub read-tree : (q : ℕ) (x : Tree) → p < length t → treeAt t w depthLimit p ≡ ok (found x q) → Onward x q
+  pub read-tree : (q : ℕ) (x : Tree) → p < length t → treeAt t depthLimit p ≡ ok (found x q) → Onward x q
   unfolding treesAt
   read-tree q x lt e = by (g .k) (g .enough) (g .whole)
     where
-      by : (k : ℕ) → length t < k + p → tableOf w t ≡ andThen (treesAt t w k p) (λ ys q. ok (found (g .pre ys) q)) → Onward x q
+      by : (k : ℕ) → length t < k + p → tableOf t ≡ andThen (treesAt t k p) (λ ys q. ok (found (g .pre ys) q)) → Onward x q
       by zero h f = absurd (omega arith)
       by (suc k) h f =
-          let i = found-in t w depthLimit p q x (g .within) e in
+          let i = found-in t depthLimit p q x (g .within) e in
           record {
             past = i .0;
             rest = record {
               k = k;
               enough = omega arith;
               pre = λ ys. g .pre (more x ys);
-              whole = f ∙ rw (lt-ltb p (length t) lt, e) (then-more x (g .pre) (treesAt t w k q));
+              whole = f ∙ rw (lt-ltb p (length t) lt, e) (then-more x (g .pre) (treesAt t k q));
               within = i .1;
               limit = g .limit;
             };
             pre-is = λ ys. refl;
           }
 
-  pub read-stop : (b a : ℕ) → p < length t → treeAt t w depthLimit p ≡ refused b a → tableOf w t ≡ refused b a
+  pub read-stop : (b a : ℕ) → p < length t → treeAt t depthLimit p ≡ refused b a → tableOf t ≡ refused b a
   unfolding treesAt
   read-stop b a lt e = by (g .k) (g .enough) (g .whole)
     where
-      by : (k : ℕ) → length t < k + p → tableOf w t ≡ andThen (treesAt t w k p) (λ ys q. ok (found (g .pre ys) q)) → tableOf w t ≡ refused b a
+      by : (k : ℕ) → length t < k + p → tableOf t ≡ andThen (treesAt t k p) (λ ys q. ok (found (g .pre ys) q)) → tableOf t ≡ refused b a
       by zero h f = absurd (omega arith)
       by (suc k) h f = f ∙ rw (lt-ltb p (length t) lt, e) refl
 
-  pub read-end : length t ≤ p → tableOf w t ≡ ok (found (g .pre none) p)
+  pub read-end : length t ≤ p → tableOf t ≡ ok (found (g .pre none) p)
   unfolding treesAt
   read-end le = by (g .k) (g .whole)
     where
-      by : (k : ℕ) → tableOf w t ≡ andThen (treesAt t w k p) (λ ys q. ok (found (g .pre ys) q)) → tableOf w t ≡ ok (found (g .pre none) p)
+      by : (k : ℕ) → tableOf t ≡ andThen (treesAt t k p) (λ ys q. ok (found (g .pre ys) q)) → tableOf t ≡ ok (found (g .pre none) p)
       by zero f = f
       by (suc k) f = f ∙ rw (le-ltb p (length t) le) refl

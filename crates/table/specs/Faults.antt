@@ -1,14 +1,24 @@
--- The place of a table's fault (document 02, 1/12). THEOREM fault-placed: 22 and no other fault is told at the table's length; every other one, but for 1, at one of its bytes.
+-- The faults of a table: their places (document 02, 1/12) and their numbers. THEOREM fault-placed: 22 and no other fault is told at the table's length; every other one, but
+-- for 1, at one of its bytes. THEOREM fault-numbered: a table is refused for its length, or with one of six numbers; 17, retired by document 02, 6/12, is none of them.
 use Prim.Native.Nat.{ℕ, _≤_}
 use mathlib.Core.Path.{_≡_}
-use mathlib.Core.Bool.{Bool}
+use mathlib.Core.Bool.{Bool, true, _||_}
+use mathlib.Core.Logic.{_⊎_}
 use mathlib.Core.List.{List}
+use lib.Dec.{eqb}
 use lib.ListN.{length}
-use Rattle.refusals.specs.Numbers.{tableLimit, missingTrees}
+use Rattle.refusals.specs.Numbers.{tableLimit, tooLong, tooDeep, badRecord, badSymbol, unknownKind, wrongLength, missingTrees}
 use Rattle.refusals.specs.Result.{refused}
 use Rattle.table.specs.Decoding.{tableOf}
 
 abbrev pub FaultPlaced : Type 0
 FaultPlaced =
-    (printing : Bool) (t : List ℕ) (n a : ℕ) → length t ≤ tableLimit → tableOf printing t ≡ refused n a
+    (t : List ℕ) (n a : ℕ) → length t ≤ tableLimit → tableOf t ≡ refused n a
     → (a ≤ length t) × (n ≡ missingTrees → a ≡ length t) × (a ≡ length t → n ≡ missingTrees)
+
+-- what a record that is due is refused for
+abbrev pub isFault : ℕ → Bool
+isFault n = eqb n badRecord || (eqb n unknownKind || (eqb n wrongLength || (eqb n tooDeep || (eqb n badSymbol || eqb n missingTrees))))
+
+abbrev pub FaultNumbered : Type 0
+FaultNumbered = (t : List ℕ) (n a : ℕ) → tableOf t ≡ refused n a → (n ≡ tooLong) ⊎ (isFault n ≡ true)

@@ -3,7 +3,6 @@ pub mod Trees
 pub mod Records
 pub mod Decoding
 pub mod Past
-pub mod Printable
 pub mod Accepted
 pub mod PrivateWalking
 pub mod Faults

@@ -5,13 +5,11 @@ use refusals::Refusal;
 ghost use mathlib.Core.Path.{_≡_};
 ghost use Prim.Native.Nat.{_+_, _≤_};
 ghost use lib.ListN.{length};
-ghost use mathlib.Core.Bool.{false};
 ghost use Rattle.refusals.specs.Numbers.{depthLimit};
 ghost use Rattle.records.specs.Records.{headLen, payload};
-ghost use Rattle.table.specs.Kinds.{integerLen};
 ghost use Rattle.table.specs.Trees.{isSymbol};
 ghost use Rattle.table.specs.Records.{recordAt};
-ghost use Rattle.table.specs.Decoding.{isLowest, stepAt, treeAt, tableOf, judged, verdictOf};
+ghost use Rattle.table.specs.Decoding.{stepAt, treeAt, tableOf, judged, verdictOf};
 ghost use Rattle.table.specs.Past.{pastSymbol, pastOf};
 ghost use Rattle.table.specs.PrivateWalking.{walkOf};
 
@@ -115,15 +113,6 @@ fn is_name(t: &[u8], at: usize, len: usize) -> bool
     is_symbol(&t[start..end])
 }
 
-// The integer's record at `at` holds -2^127.
-fn is_lowest(t: &[u8], at: usize) -> bool
-    requires { ⌜ at + integerLen ≤ length (now t) ⌝ }
-    ensures { λ r. ⌜ r ≡ isLowest (now (t .entry)) at ⌝ }
-{
-    let w = wide::wide_at(t, at + HEAD);
-    (w.hi == i64::MIN) & (w.lo == 0)
-}
-
 pub enum Step {
     // The number of the record's own refusal.
     Fault(u8),
@@ -134,9 +123,9 @@ pub enum Step {
     List(usize),
 }
 
-// The record that is due at `at`, judged: 22, or 15, 20, 21, 13, 16, 17. `deeper` says if one more list or binding may be open.
-pub fn step_at(t: &[u8], at: usize, deeper: bool, printing: bool) -> Step
-    ensures { λ r. ⌜ r ≡ stepAt (now (t .entry)) printing at deeper ⌝ }
+// The record that is due at `at`, judged: 22, or 15, 20, 21, 13, 16. `deeper` says if one more list or binding may be open.
+pub fn step_at(t: &[u8], at: usize, deeper: bool) -> Step
+    ensures { λ r. ⌜ r ≡ stepAt (now (t .entry)) at deeper ⌝ }
 {
     let read = record_at(t, at);
     match read {
@@ -147,12 +136,7 @@ pub fn step_at(t: &[u8], at: usize, deeper: bool, printing: bool) -> Step
             }
             Step::Fault(refusals::BAD_SYMBOL)
         }
-        Record::Integer => {
-            if printing & is_lowest(t, at) {
-                return Step::Fault(refusals::LOWEST);
-            }
-            Step::Integer
-        }
+        Record::Integer => Step::Integer,
         Record::Binding(len) => {
             if deeper {
                 if is_name(t, at, len) {
@@ -197,20 +181,20 @@ enum Walked {
 }
 
 // The tree at `at`, with `depth` lists and bindings still to be opened.
-fn check_tree(t: &[u8], at: usize, depth: usize, printing: bool) -> Walked
-    ensures { λ r. ⌜ r ≡ walkOf (treeAt (now (t .entry)) printing depth at) ⌝ }
+fn check_tree(t: &[u8], at: usize, depth: usize) -> Walked
+    ensures { λ r. ⌜ r ≡ walkOf (treeAt (now (t .entry)) depth at) ⌝ }
 {
-    let step = step_at(t, at, 0 < depth, printing);
+    let step = step_at(t, at, 0 < depth);
     match step {
         Step::Fault(number) => Walked::Stopped(Refusal { number, place: at }),
         Step::Symbol(len) => Walked::Past(at + len),
         Step::Integer => Walked::Past(at + INTEGER_LEN),
-        Step::Binding(len) => check_tree(t, at + len, depth - 1, printing),
+        Step::Binding(len) => check_tree(t, at + len, depth - 1),
         Step::List(n) => {
             let mut p = at + LIST_LEN;
             let mut i = 0;
             while i < n {
-                let item = check_tree(t, p, depth - 1, printing);
+                let item = check_tree(t, p, depth - 1);
                 match item {
                     Walked::Stopped(r) => {
                         return Walked::Stopped(r);
@@ -228,9 +212,9 @@ fn check_tree(t: &[u8], at: usize, depth: usize, printing: bool) -> Walked
 
 // The place past the tree at `at`, or `at` where there is none.
 pub fn past(t: &[u8], at: usize) -> usize
-    ensures { λ r. ⌜ r ≡ pastOf at (treeAt (now (t .entry)) false depthLimit at) ⌝ }
+    ensures { λ r. ⌜ r ≡ pastOf at (treeAt (now (t .entry)) depthLimit at) ⌝ }
 {
-    let tree = check_tree(t, at, refusals::DEPTH_LIMIT, false);
+    let tree = check_tree(t, at, refusals::DEPTH_LIMIT);
     match tree {
         Walked::Past(q) => q,
         Walked::Stopped(_) => at,
@@ -238,8 +222,8 @@ pub fn past(t: &[u8], at: usize) -> usize
 }
 
 // The whole table: 1, then the first refusal in the order of its records; a tree that is missing is told where its record was due.
-pub fn check(t: &[u8], printing: bool) -> Checked
-    ensures { λ r. ⌜ verdictOf r ≡ judged (tableOf printing (now (t .entry))) ⌝ }
+pub fn check(t: &[u8]) -> Checked
+    ensures { λ r. ⌜ verdictOf r ≡ judged (tableOf (now (t .entry))) ⌝ }
 {
     if refusals::TABLE_LIMIT < t.len() {
         return Checked::Refused(Refusal {
@@ -249,7 +233,7 @@ pub fn check(t: &[u8], printing: bool) -> Checked
     }
     let mut p = 0;
     while p < t.len() {
-        let tree = check_tree(t, p, refusals::DEPTH_LIMIT, printing);
+        let tree = check_tree(t, p, refusals::DEPTH_LIMIT);
         match tree {
             Walked::Stopped(r) => {
                 return Checked::Refused(r);

@@ -174,7 +174,7 @@ module _ (t : List ℕ) (w : ℕ) (bytes : Bytes t) where
 
     fill-twins : Ends (fillOf t w (state c k) b) (fillOf t w (state c ws) b)
     unfolding fillOf
-    fill-twins = pick₂ Ends (isFresh (c .phase)) (λ _. first-twins (tableOf true t)) (λ _. go-twins b (state c k) (state c ws) (refl, l, g) c k ws l g)
+    fill-twins = pick₂ Ends (isFresh (c .phase)) (λ _. first-twins (tableOf t)) (λ _. go-twins b (state c k) (state c ws) (refl, l, g) c k ws l g)
 
   fill-through : (b : List ℕ) (s : State) (ws : List ℕ) → Twins s (unpackOf ws) → Ends (fillOf t w s b) (fillOf t w (unpackOf ws) b)
   fill-through b s ws h = subst (λ (c : Cursor). Ends (fillOf t w s b) (fillOf t w (state c ws) b)) (sym (h .0)) (fill-twins b (s .stack) ws (s .cursor) (h .0) (h .1) (h .2))

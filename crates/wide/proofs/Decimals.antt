@@ -1,5 +1,6 @@
 -- Decimal text: how long it is, that no zero leads it, and one digit more or less. Assumes nothing.
-use mathlib.Core.Path.{_≡_, sym, ap, _∙_, subst}
+use mathlib.Core.Path.{_≡_, refl, sym, ap, _∙_, subst}
+use mathlib.Core.Bool.{true, false}
 use mathlib.Core.List.{List, [], _∷_, _++_}
 use mathlib.Core.Logic.{⊎-elim}
 use Prim.Native.Nat.{ℕ, zero, suc, _+_, _/_, _%_, _^_, _≤_, _<_}
@@ -10,7 +11,7 @@ use lib.IntN.{ℤ, pos, negsuc}
 use lib.ListN.{length, getD, length-append}
 use borrow.Author.Tests.{lt-ltb, le-ltb}
 use Rattle.lists.proofs.Choice.{pick}
-use Rattle.wide.specs.Text.{digits, digitsOf, integerText}
+use Rattle.wide.specs.Text.{digits, digitsOf, decimal, isLowest, lowestText, integerText}
 use Rattle.wide.proofs.TwoLimbs.{which}
 
 pub digits-one : (k n : ℕ) → n < 10 → digits (suc k) n ≡ (48 + n) ∷ []
@@ -68,10 +69,30 @@ text-low n = digits-low 38 n
 pub text-top : (n : ℕ) → length (digitsOf n) ≤ 39
 text-top n = digits-top 39 n
 
+decimal-top : (z : ℤ) → length (decimal z) ≤ 40
+decimal-top (pos n) = omega (arith, text-top n)
+decimal-top (negsuc n) = omega (arith, text-top (suc n))
+
 pub integer-top : (z : ℤ) → length (integerText z) ≤ 40
 unfolding integerText
-integer-top (pos n) = omega (arith, text-top n)
-integer-top (negsuc n) = omega (arith, text-top (suc n))
+integer-top z = pick (λ (l : List ℕ). length l ≤ 40) (isLowest z) (λ _. lit≤ tt) (λ _. decimal-top z)
+
+pub integer-low : (z : ℤ) → 1 ≤ length (integerText z)
+unfolding integerText
+integer-low z = pick (λ (l : List ℕ). 1 ≤ length l) (isLowest z) (λ _. lit≤ tt) (λ _. by z)
+  where
+    by : (v : ℤ) → 1 ≤ length (decimal v)
+    by (pos n) = text-low n
+    by (negsuc n) = omega arith
+
+-- -2^127 and every other integer
+pub lowest-text : (z : ℤ) → isLowest z ≡ true → integerText z ≡ lowestText
+unfolding integerText
+lowest-text z e = rw e refl
+
+pub other-text : (z : ℤ) → isLowest z ≡ false → integerText z ≡ decimal z
+unfolding integerText
+other-text z e = rw e refl
 
 -- no leading zero
 pub digits-first : (k n : ℕ) → 0 < n → n < 10 ^ k → 49 ≤ getD (digits k n) 0 0

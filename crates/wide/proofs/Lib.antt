@@ -5,6 +5,7 @@ pub mod Signs
 pub mod Minus
 pub mod Growth
 pub mod Tens
+pub mod Lowest
 pub mod Decimals
 pub mod Spelling
 pub mod Numbers

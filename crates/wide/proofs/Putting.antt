@@ -66,3 +66,7 @@ minus-put b ys ds h e =
 
 pub minus-room : (b : List ℕ) (k : ℕ) → k < length b → k ≤ length (take (length (set b 0 45) - 1) (drop 1 (set b 0 45)))
 minus-room b k h = omega (arith, part-length 1 (set b 0 45), length-set b 0 45)
+
+-- a text that was put under another name
+pub put-as : (o s b b′ : List ℕ) (n : ℕ) → o ≡ s → (n ≡ length s) × (b′ ≡ fitted s b) → (n ≡ length o) × (b′ ≡ fitted o b)
+put-as o s b b′ n e h = subst (λ (x : List ℕ). (n ≡ length x) × (b′ ≡ fitted x b)) (sym e) h

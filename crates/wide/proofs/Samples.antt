@@ -6,18 +6,19 @@ use Prim.Native.Nat.{ℕ, _+_, _-_, _^_}
 use lib.IntN.{pos, negsuc}
 use lib.ListN.{replicate}
 use Rattle.wide.specs.Value.{is, none, integerOf, Fits, Over, grown}
-use Rattle.wide.specs.Text.{digits, integerText}
+use Rattle.wide.specs.Text.{digits, isLowest, integerText}
 use Rattle.wide.specs.Bytes.{le, wideBytes}
 
--- 0, -1, 10, the highest and the lowest integer as text
-pub texts : map integerText (pos 0 ∷ negsuc 0 ∷ pos 10 ∷ pos (2 ^ 127 - 1) ∷ negsuc (2 ^ 127 - 1) ∷ [])
+-- 0, -1, 10, the highest integer and the two lowest as text
+pub texts : map integerText (pos 0 ∷ negsuc 0 ∷ pos 10 ∷ pos (2 ^ 127 - 1) ∷ negsuc (2 ^ 127 - 2) ∷ negsuc (2 ^ 127 - 1) ∷ [])
     ≡ (48 ∷ [])
     ∷ (45 ∷ 49 ∷ [])
     ∷ (49 ∷ 48 ∷ [])
     ∷ (49 ∷ 55 ∷ 48 ∷ 49 ∷ 52 ∷ 49 ∷ 49 ∷ 56 ∷ 51 ∷ 52 ∷ 54 ∷ 48 ∷ 52 ∷ 54 ∷ 57 ∷ 50 ∷ 51 ∷ 49 ∷ 55 ∷ 51 ∷ 49 ∷ 54 ∷ 56 ∷ 55 ∷ 51 ∷ 48 ∷ 51 ∷ 55 ∷ 49 ∷ 53 ∷ 56 ∷ 56 ∷ 52 ∷ 49 ∷ 48 ∷ 53 ∷ 55 ∷ 50 ∷ 55 ∷ [])
-    ∷ (45 ∷ 49 ∷ 55 ∷ 48 ∷ 49 ∷ 52 ∷ 49 ∷ 49 ∷ 56 ∷ 51 ∷ 52 ∷ 54 ∷ 48 ∷ 52 ∷ 54 ∷ 57 ∷ 50 ∷ 51 ∷ 49 ∷ 55 ∷ 51 ∷ 49 ∷ 54 ∷ 56 ∷ 55 ∷ 51 ∷ 48 ∷ 51 ∷ 55 ∷ 49 ∷ 53 ∷ 56 ∷ 56 ∷ 52 ∷ 49 ∷ 48 ∷ 53 ∷ 55 ∷ 50 ∷ 56 ∷ [])
+    ∷ (45 ∷ 49 ∷ 55 ∷ 48 ∷ 49 ∷ 52 ∷ 49 ∷ 49 ∷ 56 ∷ 51 ∷ 52 ∷ 54 ∷ 48 ∷ 52 ∷ 54 ∷ 57 ∷ 50 ∷ 51 ∷ 49 ∷ 55 ∷ 51 ∷ 49 ∷ 54 ∷ 56 ∷ 55 ∷ 51 ∷ 48 ∷ 51 ∷ 55 ∷ 49 ∷ 53 ∷ 56 ∷ 56 ∷ 52 ∷ 49 ∷ 48 ∷ 53 ∷ 55 ∷ 50 ∷ 55 ∷ [])
+    ∷ (48 ∷ 120 ∷ 56 ∷ replicate 31 48)
     ∷ []
-unfolding digits integerText
+unfolding digits isLowest integerText
 texts = refl
 
 -- the literals of document 01: `0x8` and 31 zeros, with `-` too, `-0x` and 32 `f`, 2^128-1; 0 with a sign; either side of 2^127

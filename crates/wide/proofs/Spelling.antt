@@ -12,7 +12,7 @@ use lib.Seq.{drop-cons, getD-set-same, drop-set-lt}
 use lib.Signed.{ltZ}
 use borrow.Author.Tests.{ltb-true}
 use Rattle.lists.specs.Over.{over}
-use Rattle.wide.specs.Text.{digitsOf, integerText}
+use Rattle.wide.specs.Text.{digitsOf, decimal}
 use Rattle.wide.proofs.Decimals.{text-one, text-more, text-low}
 
 pub big : (hi lo : ℕ) → 0 < hi → 10 ≤ hi * 2 ^ 64 + lo
@@ -113,12 +113,10 @@ rest-low want out out′ n at hi lo f h e =
 
 -- ---- the sign
 
-pub minus-text : (z : ℤ) (m : ℕ) (b : Bool) → m ≡ natAbs z → b ≡ ltZ z (pos 0) → b ≡ true → integerText z ≡ 45 ∷ digitsOf m
-unfolding integerText
+pub minus-text : (z : ℤ) (m : ℕ) (b : Bool) → m ≡ natAbs z → b ≡ ltZ z (pos 0) → b ≡ true → decimal z ≡ 45 ∷ digitsOf m
 minus-text (pos n) m b e f g = let h : n < 0 = ltb-true n 0 (sym f ∙ g) in absurd (omega arith)
 minus-text (negsuc n) m b e f g = ap (λ (x : ℕ). 45 ∷ digitsOf x) (sym e)
 
-pub plain-text : (z : ℤ) (m : ℕ) (b : Bool) → m ≡ natAbs z → b ≡ ltZ z (pos 0) → b ≡ false → integerText z ≡ digitsOf m
-unfolding integerText
+pub plain-text : (z : ℤ) (m : ℕ) (b : Bool) → m ≡ natAbs z → b ≡ ltZ z (pos 0) → b ≡ false → decimal z ≡ digitsOf m
 plain-text (pos n) m b e f g = ap digitsOf (sym e)
 plain-text (negsuc n) m b e f g = let z : _≡_ {A = ℕ} 0 1 = cc in absurd (omega arith)

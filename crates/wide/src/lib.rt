@@ -11,7 +11,7 @@ ghost use lib.ListN.{length};
 ghost use lib.Signed.{ltZ};
 ghost use Rattle.lists.specs.Over.{over, fitted};
 ghost use Rattle.wide.specs.Value.{val, value, grown, reduced, integerOf, signedOf};
-ghost use Rattle.wide.specs.Text.{integerText};
+ghost use Rattle.wide.specs.Text.{decimal, isLowest, integerText};
 ghost use Rattle.wide.specs.Bytes.{le, numberAt, numberIn, wideBytes, wideIn};
 
 pub struct Limbs {
@@ -154,9 +154,9 @@ fn magnitude(w: Wide) -> Limbs
     bits
 }
 
-// How many bytes the text of w takes.
-pub fn text_len(w: Wide) -> usize
-    ensures { λ r. ⌜ r ≡ length (integerText (value w)) ⌝ }
+// How many bytes w takes in decimal.
+fn decimal_len(w: Wide) -> usize
+    ensures { λ r. ⌜ r ≡ length (decimal (value w)) ⌝ }
 {
     let k = digits::count(magnitude(w));
     if negative(w) {
@@ -165,9 +165,9 @@ pub fn text_len(w: Wide) -> usize
     k
 }
 
-// Puts the text of w at the front of out and answers its length; a room that is too short stays as it was.
-pub fn put_text(w: Wide, out: &mut [u8]) -> usize
-    ensures { λ r. ⌜ (r ≡ length (integerText (value w))) × (now (out .exit) ≡ fitted (integerText (value w)) (now (out .entry))) ⌝ }
+// Puts w in decimal at the front of out and answers its length; a room that is too short stays as it was.
+fn put_decimal(w: Wide, out: &mut [u8]) -> usize
+    ensures { λ r. ⌜ (r ≡ length (decimal (value w))) × (now (out .exit) ≡ fitted (decimal (value w)) (now (out .entry))) ⌝ }
 {
     let n = magnitude(w);
     let k = digits::count(n);
@@ -184,6 +184,33 @@ pub fn put_text(w: Wide, out: &mut [u8]) -> usize
     }
     digits::put_digits(n, k, out);
     k
+}
+
+// w is -2^127, the one integer whose text is not decimal: with a minus sign it would not read back.
+fn is_lowest(w: Wide) -> bool
+    ensures { λ r. ⌜ r ≡ isLowest (value w) ⌝ }
+{
+    (w.hi == i64::MIN) & (w.lo == 0)
+}
+
+// How many bytes the text of w takes.
+pub fn text_len(w: Wide) -> usize
+    ensures { λ r. ⌜ r ≡ length (integerText (value w)) ⌝ }
+{
+    if is_lowest(w) {
+        return 34;
+    }
+    decimal_len(w)
+}
+
+// Puts the text of w at the front of out and answers its length; a room that is too short stays as it was.
+pub fn put_text(w: Wide, out: &mut [u8]) -> usize
+    ensures { λ r. ⌜ (r ≡ length (integerText (value w))) × (now (out .exit) ≡ fitted (integerText (value w)) (now (out .entry))) ⌝ }
+{
+    if is_lowest(w) {
+        return lists::put(b"0x80000000000000000000000000000000", out);
+    }
+    put_decimal(w, out)
 }
 
 // The k lowest bytes of x at the front of out, the least first.

@@ -31,11 +31,11 @@ module _ (t : List ℕ) (w : ℕ) (s : State) (b : List ℕ) where
   -- a call on a state that has begun, and one on a fresh state
   pub fill-begun : isFresh (s .cursor .phase) ≡ false → fillOf t w s b ≡ goOn t w s s b
   unfolding fillOf
-  fill-begun e = ap (λ (z : Bool). cond z (first t w s b (tableOf true t)) (goOn t w s s b)) e
+  fill-begun e = ap (λ (z : Bool). cond z (first t w s b (tableOf t)) (goOn t w s s b)) e
 
-  pub fill-fresh : (y : Result (Found Trees)) → isFresh (s .cursor .phase) ≡ true → tableOf true t ≡ y → fillOf t w s b ≡ first t w s b y
+  pub fill-fresh : (y : Result (Found Trees)) → isFresh (s .cursor .phase) ≡ true → tableOf t ≡ y → fillOf t w s b ≡ first t w s b y
   unfolding fillOf
-  fill-fresh y e f = ap (λ (z : Bool). cond z (first t w s b (tableOf true t)) (goOn t w s s b)) e ∙ ap (first t w s b) f
+  fill-fresh y e f = ap (λ (z : Bool). cond z (first t w s b (tableOf t)) (goOn t w s s b)) e ∙ ap (first t w s b) f
 
   -- what holds of a call that answers the end, of one with no room, of one that runs, and of one that refuses, holds of any
   module _ (P : Call → Type 0) (at-end : (at : State) → isDone (at .cursor .phase) ≡ true → P (call (ok (end (at .cursor .looked))) at b)) (empty : length b ≡ 0 → P (call (ok (part 0)) s b))
@@ -45,14 +45,14 @@ module _ (t : List ℕ) (w : ℕ) (s : State) (b : List ℕ) where
         pick P (isDone (at .cursor .phase)) (λ e. at-end at e) (λ e.
         pick P (eqb (length b) 0) (λ f. empty (eqb-true (length b) 0 f)) (λ f. let g = eqb-false (length b) 0 f in runs at (omega (arith, g))))
 
-    module _ (refuses : (n a : ℕ) → isFresh (s .cursor .phase) ≡ true → tableOf true t ≡ refused n a → P (call (refused n a) s b)) where
-      first-cases : isFresh (s .cursor .phase) ≡ true → (y : Result (Found Trees)) → tableOf true t ≡ y → P (first t w s b y)
+    module _ (refuses : (n a : ℕ) → isFresh (s .cursor .phase) ≡ true → tableOf t ≡ refused n a → P (call (refused n a) s b)) where
+      first-cases : isFresh (s .cursor .phase) ≡ true → (y : Result (Found Trees)) → tableOf t ≡ y → P (first t w s b y)
       first-cases e (ok (found xs q)) f = go-cases (started t w s)
       first-cases e (refused n a) f = refuses n a e f
 
       pub fill-cases : P (fillOf t w s b)
       unfolding fillOf
-      fill-cases = pick P (isFresh (s .cursor .phase)) (λ e. first-cases e (tableOf true t) refl) (λ e. go-cases s)
+      fill-cases = pick P (isFresh (s .cursor .phase)) (λ e. first-cases e (tableOf t) refl) (λ e. go-cases s)
 
 -- ---- what a call reports
 
@@ -115,7 +115,7 @@ end-stays t w s b b′ k h =
 pub refused-at-first : RefusedAtFirst
 refused-at-first t w s b n a =
     fill-cases t w s b
-    (λ (c : Call). c .answer ≡ refused n a → (isFresh (s .cursor .phase) ≡ true) × (tableOf true t ≡ refused n a) × (c ≡ call (refused n a) s b))
+    (λ (c : Call). c .answer ≡ refused n a → (isFresh (s .cursor .phase) ≡ true) × (tableOf t ≡ refused n a) × (c ≡ call (refused n a) s b))
     (λ at e f. let z : _≡_ {A = ℕ} 0 1 = cc in absurd (omega arith)) (λ e f. let z : _≡_ {A = ℕ} 0 1 = cc in absurd (omega arith))
     (λ at l f. let z : _≡_ {A = ℕ} 0 1 = cc in absurd (omega arith))
     (λ m c e g f. let em : m ≡ n = cc in let ec : c ≡ a = cc in (e, rw (sym em, sym ec) g, rw (em, ec) refl))

@@ -205,9 +205,9 @@ module _ (t : List ℕ) (w total : ℕ) where
     begun-of s o (none-left _ _ e u f) = done-not-fresh (s .cursor .phase) e
     begun-of s o (some-left _ _ r e b lt f h) = b
 
-    module _ (q : ℕ) (hb : Bytes t) (good : tableOf true t ≡ ok (found xs q)) (all : pageLooked xs w % 2 ^ 32 ≡ total) where
+    module _ (q : ℕ) (hb : Bytes t) (good : tableOf t ≡ ok (found xs q)) (all : pageLooked xs w % 2 ^ 32 ≡ total) where
       start-rests : (s : State) → Begins s → Rests (started t w s) (page xs w)
-      start-rests s h = let a = sound true t xs q hb good in rests (started t w s) (page xs w) (page-puts t hb w total xs s (a .good) (a .is) (h .size) all)
+      start-rests s h = let a = sound t xs q hb good in rests (started t w s) (page xs w) (page-puts t hb w total xs s (a .good) (a .is) (h .size) all)
 
       -- every call on a state that calls have come to
       pub one-call : (s : State) (o b : List ℕ) → Reached s o → Told (fillOf t w s b) o b

@@ -24,9 +24,9 @@ use Rattle.windows.proofs.Joined.{Rests, none-left, some-left, windows-
 
 pub windows-printed : WindowsPrinted
 unfolding printing printedInto
-windows-printed t w n k b s hb e h bs = by (tableOf true t) refl e
+windows-printed t w n k b s hb e h bs = by (tableOf t) refl e
   where
-    by : (y : Result (Found Trees)) → tableOf true t ≡ y → answered y w (length b) ≡ ok (text n k) → Windowed t w s bs (take n (leaves y w b)) k
+    by : (y : Result (Found Trees)) → tableOf t ≡ y → answered y w (length b) ≡ ok (text n k) → Windowed t w s bs (take n (leaves y w b)) k
     by (refused m a) f g = let z : _≡_ {A = ℕ} 0 1 = cc in absurd (omega arith)
     by (ok (found xs q)) f g = sized (leb (length (page xs w)) (length b)) g
       where
@@ -40,9 +40,9 @@ windows-printed t w n k b s hb e h bs = by (tableOf true t) refl e
 
 pub print-refused : PrintRefused
 unfolding printing
-print-refused t w k n a s b h e other = by (tableOf true t) refl e
+print-refused t w k n a s b h e other = by (tableOf t) refl e
   where
-    by : (y : Result (Found Trees)) → tableOf true t ≡ y → answered y w k ≡ refused n a → fillOf t w s b ≡ call (refused n a) s b
+    by : (y : Result (Found Trees)) → tableOf t ≡ y → answered y w k ≡ refused n a → fillOf t w s b ≡ call (refused n a) s b
     by (refused m c) f g =
         let em : m ≡ n = cc in
         let ec : c ≡ a = cc in

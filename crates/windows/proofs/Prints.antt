@@ -9,13 +9,12 @@ use native.Mathlib.Nat.{zero-add}
 use lib.ListN.{length, getD, set, length-append, length-set, drop-of-length-le}
 use lib.Seq.{getD-set-same, getD-set-other}
 use lib.Dec.{leb, eqb, lit<}
-use lib.IntN.{ℤ, pos, negsuc}
 use borrow.Author.Tests.{lt-ltb, le-ltb, ne-eqb, lt-leb, leb-true, leb-false}
 use Rattle.refusals.specs.Numbers.{depthLimit}
 use Rattle.wide.specs.Bytes.{Bytes, le, wideBytes}
 use Rattle.wide.specs.Text.{integerText}
 use Rattle.wide.proofs.Numbers.{le-length, wide-length}
-use Rattle.wide.proofs.Decimals.{text-low}
+use Rattle.wide.proofs.Decimals.{integer-low}
 use Rattle.records.specs.Records.{headLen, record-of}
 use Rattle.records.proofs.Heads.{stood, stood-payload, length-record}
 use Rattle.table.specs.Kinds.{symbolKind, integerKind, bindingKind, listKind, integerLen, listLen}
@@ -106,11 +105,6 @@ some-bytes : (n : List ℕ) → isSymbol n ≡ true → 0 < length n
 unfolding isSymbol
 some-bytes [] e = let z : _≡_ {A = ℕ} 0 1 = cc in absurd (omega arith)
 some-bytes (b ∷ n) e = omega arith
-
-some-text : (v : ℤ) → 0 < length (integerText v)
-unfolding integerText
-some-text (pos n) = omega (arith, text-low n)
-some-text (negsuc n) = omega arith
 
 wrap-single : SingleLine ≡ Wrap → ⊥
 wrap-single z = let y : _≡_ {A = ℕ} 0 1 = cc in omega arith
@@ -283,7 +277,7 @@ module _ (t : List ℕ) (hb : Bytes t) (w total : ℕ) where
         let r = value-read v t p good hp s in
         let e : length (record-of integerKind (wideBytes v)) ≡ integerLen = length-record integerKind (wideBytes v) ∙ rw (wide-length v) refl in
         atom p k d g c ind u integerLen z (integerText v) o Integer (reads (integer v) t p (good-sized (integer v) a good) hp s)
-        (ap integerText r) (some-text v)
+        (ap integerText r) (integer-low v)
         (rw r refl) ez
         (after-at k d g (c + length (integerText v)) z o _ _ _ _ (zero-add u) (ap (λ (j : ℕ). p + j) e) h)
     tree (binding n x) a p k d g i ind c u m z o good hp s hk hi ez hd em hin h =

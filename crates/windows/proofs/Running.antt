@@ -138,12 +138,12 @@ module _ (t : List ℕ) (w : ℕ) (s : State) (b : List ℕ) where
   pub fill-on : (z : Bool) → z ≡ isFresh (s .cursor .phase) → z ≡ false → goOn t w s s b ≡ fillOf t w s b
   fill-on z e f = sym (fill-begun t w s b (sym e ∙ f))
 
-  fill-first : (z : Bool) → z ≡ isFresh (s .cursor .phase) → z ≡ true → first t w s b (tableOf true t) ≡ fillOf t w s b
-  fill-first z e f = sym (fill-fresh t w s b (tableOf true t) (sym e ∙ f) refl)
+  fill-first : (z : Bool) → z ≡ isFresh (s .cursor .phase) → z ≡ true → first t w s b (tableOf t) ≡ fillOf t w s b
+  fill-first z e f = sym (fill-fresh t w s b (tableOf t) (sym e ∙ f) refl)
 
-  pub fill-no : (z : Bool) → z ≡ isFresh (s .cursor .phase) → z ≡ true → (c : Checked) (r : Refusal) → verdictOf c ≡ judged (tableOf true t) → c ≡ checked.Refused r
+  pub fill-no : (z : Bool) → z ≡ isFresh (s .cursor .phase) → z ≡ true → (c : Checked) (r : Refusal) → verdictOf c ≡ judged (tableOf t) → c ≡ checked.Refused r
       → call (refused (r .number) (r .place)) s b ≡ fillOf t w s b
-  fill-no z e f c r v ec = by (tableOf true t) (sym (ap verdictOf ec) ∙ v) ∙ fill-first z e f
+  fill-no z e f c r v ec = by (tableOf t) (sym (ap verdictOf ec) ∙ v) ∙ fill-first z e f
     where
       by : (y : Result (Found Trees)) → refused (r .number) (r .place) ≡ judged y → call (refused (r .number) (r .place)) s b ≡ first t w s b y
       by (ok (found xs q)) f = let z : _≡_ {A = ℕ} 0 1 = cc in absurd (omega arith)
@@ -152,8 +152,8 @@ module _ (t : List ℕ) (w : ℕ) (s : State) (b : List ℕ) where
           let e2 : r .place ≡ a = cc in
           ap (λ (j : ℕ). call (refused j (r .place)) s b) e1 ∙ ap (λ (j : ℕ). call (refused n j) s b) e2
 
-  pub fill-good : (z : Bool) → z ≡ isFresh (s .cursor .phase) → z ≡ true → (c : Checked) → verdictOf c ≡ judged (tableOf true t) → c ≡ checked.Good → goOn t w s (started t w s) b ≡ fillOf t w s b
-  fill-good z e f c v ec = by (tableOf true t) (sym (ap verdictOf ec) ∙ v) ∙ fill-first z e f
+  pub fill-good : (z : Bool) → z ≡ isFresh (s .cursor .phase) → z ≡ true → (c : Checked) → verdictOf c ≡ judged (tableOf t) → c ≡ checked.Good → goOn t w s (started t w s) b ≡ fillOf t w s b
+  fill-good z e f c v ec = by (tableOf t) (sym (ap verdictOf ec) ∙ v) ∙ fill-first z e f
     where
       by : (y : Result (Found Trees)) → ok tt ≡ judged y → goOn t w s (started t w s) b ≡ first t w s b y
       by (ok (found xs q)) f = refl

@@ -33,7 +33,7 @@ EndStays =
 abbrev pub RefusedAtFirst : Type 0
 RefusedAtFirst =
     (t : List ℕ) (w : ℕ) (s : State) (b : List ℕ) (n a : ℕ) → fillOf t w s b .answer ≡ refused n a
-    → (isFresh (s .cursor .phase) ≡ true) × (tableOf true t ≡ refused n a) × (fillOf t w s b ≡ call (refused n a) s b)
+    → (isFresh (s .cursor .phase) ≡ true) × (tableOf t ≡ refused n a) × (fillOf t w s b ≡ call (refused n a) s b)
 
 -- and never for room
 abbrev pub NeverRoom : Type 0

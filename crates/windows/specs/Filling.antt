@@ -1,6 +1,6 @@
 -- A call: the bytes that it gives, the state after it, and the window (document 02, 2/12).
 use Prim.Native.Nat.{ℕ, zero, suc, _+_, _-_}
-use mathlib.Core.Bool.{true, cond, _||_}
+use mathlib.Core.Bool.{cond, _||_}
 use mathlib.Core.List.{List, [], _∷_, _++_}
 use lib.ListN.{length, take, drop}
 use lib.Dec.{leb, eqb}
@@ -74,7 +74,7 @@ first t w s b (ok (found xs q)) = goOn t w s (started t w s) b
 first t w s b (refused n a) = call (refused n a) s b
 
 unfoldable pub fillOf : List ℕ → ℕ → State → List ℕ → Call
-fillOf t w s b = cond (isFresh (s .cursor .phase)) (first t w s b (tableOf true t)) (goOn t w s s b)
+fillOf t w s b = cond (isFresh (s .cursor .phase)) (first t w s b (tableOf t)) (goOn t w s s b)
 
 -- document 01's number and values for each case of the answer's enum, and what a call returned, its stack by value or lent
 abbrev pub answerOf : CodeAnswer → Answer

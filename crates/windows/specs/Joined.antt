@@ -30,7 +30,7 @@ pub record Windowed (t : List ℕ) (w : ℕ) (s : State) (bs : List (List ℕ)) 
 -- for a good table the windows, whatever their lengths and what they held, joined are the front of its text
 abbrev pub WindowsJoined : Type 0
 WindowsJoined =
-    (t : List ℕ) (w : ℕ) (xs : Trees) (q : ℕ) (s : State) → Bytes t → tableOf true t ≡ ok (found xs q) → Begins s → (bs : List (List ℕ)) → Windowed t w s bs (page xs w) (pageLooked xs w)
+    (t : List ℕ) (w : ℕ) (xs : Trees) (q : ℕ) (s : State) → Bytes t → tableOf t ≡ ok (found xs q) → Begins s → (bs : List (List ℕ)) → Windowed t w s bs (page xs w) (pageLooked xs w)
 
 -- all of the text o was given: every later call answers the end, with the number k, and changes no byte, and after the first of them no state changes
 pub record Ended (t : List ℕ) (w : ℕ) (s : State) (bs : List (List ℕ)) (o : List ℕ) (k : ℕ) : Type 0 where
@@ -42,12 +42,12 @@ pub record Ended (t : List ℕ) (w : ℕ) (s : State) (bs : List (List ℕ)) (o 
 -- once the lengths suffice
 abbrev pub WindowsEnd : Type 0
 WindowsEnd =
-    (t : List ℕ) (w : ℕ) (xs : Trees) (q : ℕ) (s : State) → Bytes t → tableOf true t ≡ ok (found xs q) → Begins s → (bs : List (List ℕ)) → length (page xs w) ≤ room bs
+    (t : List ℕ) (w : ℕ) (xs : Trees) (q : ℕ) (s : State) → Bytes t → tableOf t ≡ ok (found xs q) → Begins s → (bs : List (List ℕ)) → length (page xs w) ≤ room bs
     → Ended t w s bs (page xs w) (pageLooked xs w)
 
 -- a table that is refused changes no byte, and the state is given back as it came
 abbrev pub WindowsRefused : Type 0
-WindowsRefused = (t : List ℕ) (w n a : ℕ) (s : State) (b : List ℕ) → isFresh (s .cursor .phase) ≡ true → tableOf true t ≡ refused n a → fillOf t w s b ≡ call (refused n a) s b
+WindowsRefused = (t : List ℕ) (w n a : ℕ) (s : State) (b : List ℕ) → isFresh (s .cursor .phase) ≡ true → tableOf t ≡ refused n a → fillOf t w s b ≡ call (refused n a) s b
 
 -- the text is what an ordinary print of the table writes into a buffer that has room for it, and the number is what it tells
 abbrev pub WindowsPrinted : Type 0

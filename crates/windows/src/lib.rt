@@ -209,7 +209,7 @@ pub fn fill_in(
 {
     let phase = cursor.phase;
     if machine::is_fresh(phase) {
-        match table::check(table, true) {
+        match table::check(table) {
             Checked::Refused(r) => {
                 return Moved {
                     answer: Answer::Refused(r),

@@ -1,5 +1,4 @@
 -- `printer::print`: measured, and then written where the room is enough.
-use mathlib.Core.Bool.{true}
 use Rattle.table.specs.Decoding.{tableOf}
 use Rattle.printer.proofs.PageWriting.{print-right, print-no, print-short, print-text}
 use borrow.Author.Needs.{needs}
@@ -20,13 +19,13 @@ returns : tie.Need-returns
 returns c =
     let m = c .before .before .before .before in
     let s = m .before .before .before .args in
-    let k = print-right (tableOf true (s .table .now)) _ _ _ (m .measure .ensures) (c .before .before .n .given .1) in
+    let k = print-right (tableOf (s .table .now)) _ _ _ (m .measure .ensures) (c .before .before .n .given .1) in
     print-short (s .table .now) _ (s .width) (s .out .now) (k .0) (k .1) (search (needs, not-true, leb-false))
 
 print-trees-requires : tie.Need-print-trees-requires
 print-trees-requires c κs =
     let m = c .before .before .before .before .before in
-    print-right (tableOf true (m .before .before .before .args .table .now)) _ _ _ (m .measure .ensures) (c .before .before .before .n .given .1) .0
+    print-right (tableOf (m .before .before .before .args .table .now)) _ _ _ (m .measure .ensures) (c .before .before .before .n .given .1) .0
 
 returns-2 : tie.Need-returns-2
 returns-2 c =
@@ -40,7 +39,7 @@ returns-3 : tie.Need-returns-3
 returns-3 c =
     let m = c .before .before .before .before .before .before .before .before in
     let s = m .before .before .before .args in
-    let k = print-right (tableOf true (s .table .now)) _ _ _ (m .measure .ensures) (c .before .before .before .before .before .before .n .given .1) in
+    let k = print-right (tableOf (s .table .now)) _ _ _ (m .measure .ensures) (c .before .before .before .before .before .before .n .given .1) in
     print-text (s .table .now) _ (s .width) (s .out .now) (k .0) (k .1) (search (needs, not-false, leb-true)) _ _ (c .before .before .print-trees .ensures)
 
 pub print-spec : {M : Type 1} → statement M

@@ -1,6 +1,5 @@
 -- `printer::print_node`: three parts, each in the rest of the room.
 use mathlib.Core.Path.{refl}
-use mathlib.Core.Bool.{true}
 use native.Mathlib.Omega.{arith}
 use lib.Dec.{lit≤}
 use borrow.Author.Needs.{needs}
@@ -67,7 +66,7 @@ returns : tie.Need-returns
 returns c =
     let s = c .before .before .before .before .before .before .before .before .before .before .before .before .before .before .before .before .before .args in
     let x = c .before .before .before .before .before .before .before .before .print-wrapped .ensures in (
-      node-out (s .at) (s .width) _ _ _ _ _ _ (treeAt (s .t .now) true depthLimit (s .at)) (s .out .now) _ _ _ _ (c .before .before .before .before .before .before .before .before .before .before .before .before .before .put-unless .ensures) (c .before .before .before .before .before .before .before .before .before .before .least .ensures .1) (x .0) refl
+      node-out (s .at) (s .width) _ _ _ _ _ _ (treeAt (s .t .now) depthLimit (s .at)) (s .out .now) _ _ _ _ (c .before .before .before .before .before .before .before .before .before .before .before .before .before .put-unless .ensures) (c .before .before .before .before .before .before .before .before .before .before .least .ensures .1) (x .0) refl
           (c .before .before .before .before .least2 .ensures .1) (c .before .before .put-byte .ensures),
       x .1,
     )

@@ -14,10 +14,10 @@ enum-told : tie.Need-enum-told
 enum-told c = search needs
 
 returns : tie.Need-returns
-returns c = past-is _ _ _ _ _ (c .before .before .before .check-tree .ensures) _ (c .before .tree .given .1)
+returns c = past-is _ _ _ _ (c .before .before .before .check-tree .ensures) _ (c .before .tree .given .1)
 
 returns-2 : tie.Need-returns-2
-returns-2 c = past-none _ _ _ _ _ (c .before .before .check-tree .ensures) _ (c .enum-told .given .1)
+returns-2 c = past-none _ _ _ _ (c .before .before .check-tree .ensures) _ (c .enum-told .given .1)
 
 pub past-spec : {M : Type 1} → statement M
 past-spec = tie.close (tie.spec check-tree-requires enum-known-tree enum-told returns returns-2)

@@ -1,10 +1,9 @@
 -- `table::step_at`: each record, by the tests that judge it.
-use mathlib.Core.Path.{refl, ap}
-use mathlib.Core.Bool.{Bool, _&&_}
+use mathlib.Core.Path.{refl}
 use native.Mathlib.Omega.{arith}
 use borrow.Author.Needs.{needs}
 use Rattle.table.specs.Records.{Symbol, Integer, Binding, ListOf, Bad}
-use Rattle.table.proofs.Reading.{symbol-in, binding-in, integer-in}
+use Rattle.table.proofs.Reading.{symbol-in, binding-in}
 use Rattle.table.proofs.Steps.{then-is, else-is, judged-is}
 use Rattle.table.proofs.step_at.Statement.{statement}
 use Rattle.table.proofs.step_at.Tie as tie
@@ -22,16 +21,10 @@ is-name-requires : tie.Need-is-name-requires
 is-name-requires c κs = let h = symbol-in _ _ _ _ (c .before .before .before .record-at .ensures) (c .before .read2 .given .1) in (h .0, omega arith)
 
 returns : tie.Need-returns
-returns c = judged-is _ _ _ _ _ (Symbol _) _ (c .before .before .before .before .before .record-at .ensures) (c .before .before .before .read2 .given .1) (then-is _ _ _ _ (c .before .is-name .ensures) (c .if1 .taken))
+returns c = judged-is _ _ _ _ (Symbol _) _ (c .before .before .before .before .before .record-at .ensures) (c .before .before .before .read2 .given .1) (then-is _ _ _ _ (c .before .is-name .ensures) (c .if1 .taken))
 
 enum-told : tie.Need-enum-told
 enum-told c = search needs
-
-is-lowest-requires : tie.Need-is-lowest-requires
-is-lowest-requires c κs = omega (arith, integer-in _ _ _ (c .before .before .record-at .ensures) (c .enum-told .given .1))
-
-returns-2 : tie.Need-returns-2
-returns-2 c = judged-is _ _ _ _ _ Integer _ (c .before .before .before .before .record-at .ensures) (c .before .before .enum-told .given .1) (then-is _ _ _ _ (ap (λ (b : Bool). c .before .before .before .before .before .before .args .printing && b) (c .before .is-lowest .ensures)) (c .if2 .taken))
 
 enum-known-read-3 : tie.Need-enum-known-read-3
 enum-known-read-3 c = search needs
@@ -39,32 +32,32 @@ enum-known-read-3 c = search needs
 is-name-requires-2 : tie.Need-is-name-requires-2
 is-name-requires-2 c κs = let h = binding-in _ _ _ _ (c .before .before .before .before .record-at .ensures) (c .before .before .read3 .given .1) in (h .0, omega arith)
 
-returns-3 : tie.Need-returns-3
-returns-3 c = judged-is _ _ _ _ _ (Binding _) _ (c .before .before .before .before .before .before .record-at .ensures) (c .before .before .before .before .read3 .given .1) (rw (c .before .before .if3 .taken) (then-is _ _ _ _ (c .before .is-name2 .ensures) (c .if4 .taken)))
+returns-2 : tie.Need-returns-2
+returns-2 c = judged-is _ _ _ _ (Binding _) _ (c .before .before .before .before .before .before .record-at .ensures) (c .before .before .before .before .read3 .given .1) (rw (c .before .before .if2 .taken) (then-is _ _ _ _ (c .before .is-name2 .ensures) (c .if3 .taken)))
 
-returns-4 : tie.Need-returns-4
-returns-4 c = judged-is _ _ _ _ _ (Binding _) _ (c .before .before .before .before .before .before .record-at .ensures) (c .before .before .before .before .read3 .given .1) (rw (c .before .before .if3 .taken) (else-is _ _ _ _ (c .before .is-name2 .ensures) (c .if4 .left)))
+returns-3 : tie.Need-returns-3
+returns-3 c = judged-is _ _ _ _ (Binding _) _ (c .before .before .before .before .before .before .record-at .ensures) (c .before .before .before .before .read3 .given .1) (rw (c .before .before .if2 .taken) (else-is _ _ _ _ (c .before .is-name2 .ensures) (c .if3 .left)))
 
 enum-known-read-4 : tie.Need-enum-known-read-4
 enum-known-read-4 c = search needs
 
+returns-4 : tie.Need-returns-4
+returns-4 c = judged-is _ _ _ _ (ListOf _) _ (c .before .before .before .before .record-at .ensures) (c .before .before .read4 .given .1) (rw (c .if4 .taken) refl)
+
 returns-5 : tie.Need-returns-5
-returns-5 c = judged-is _ _ _ _ _ (ListOf _) _ (c .before .before .before .before .record-at .ensures) (c .before .before .read4 .given .1) (rw (c .if5 .taken) refl)
+returns-5 c = judged-is _ _ _ _ (Bad _) _ (c .before .before .before .record-at .ensures) (c .before .read .given .1) refl
 
 returns-6 : tie.Need-returns-6
-returns-6 c = judged-is _ _ _ _ _ (Bad _) _ (c .before .before .before .record-at .ensures) (c .before .read .given .1) refl
+returns-6 c = judged-is _ _ _ _ (Symbol _) _ (c .before .before .before .before .before .record-at .ensures) (c .before .before .before .read2 .given .1) (else-is _ _ _ _ (c .before .is-name .ensures) (c .if1 .left))
 
 returns-7 : tie.Need-returns-7
-returns-7 c = judged-is _ _ _ _ _ (Symbol _) _ (c .before .before .before .before .before .record-at .ensures) (c .before .before .before .read2 .given .1) (else-is _ _ _ _ (c .before .is-name .ensures) (c .if1 .left))
+returns-7 c = judged-is _ _ _ _ Integer _ (c .before .before .record-at .ensures) (c .enum-told .given .1) refl
 
 returns-8 : tie.Need-returns-8
-returns-8 c = judged-is _ _ _ _ _ Integer _ (c .before .before .before .before .record-at .ensures) (c .before .before .enum-told .given .1) (else-is _ _ _ _ (ap (λ (b : Bool). c .before .before .before .before .before .before .args .printing && b) (c .before .is-lowest .ensures)) (c .if2 .left))
+returns-8 c = judged-is _ _ _ _ (Binding _) _ (c .before .before .before .before .record-at .ensures) (c .before .before .read3 .given .1) (rw (c .if2 .left) refl)
 
 returns-9 : tie.Need-returns-9
-returns-9 c = judged-is _ _ _ _ _ (Binding _) _ (c .before .before .before .before .record-at .ensures) (c .before .before .read3 .given .1) (rw (c .if3 .left) refl)
-
-returns-10 : tie.Need-returns-10
-returns-10 c = judged-is _ _ _ _ _ (ListOf _) _ (c .before .before .before .before .record-at .ensures) (c .before .before .read4 .given .1) (rw (c .if5 .left) refl)
+returns-9 c = judged-is _ _ _ _ (ListOf _) _ (c .before .before .before .before .record-at .ensures) (c .before .before .read4 .given .1) (rw (c .if4 .left) refl)
 
 pub step-at-spec : {M : Type 1} → statement M
 step-at-spec =
@@ -76,16 +69,14 @@ step-at-spec =
     is-name-requires
     returns
     enum-told
-    is-lowest-requires
-    returns-2
     enum-known-read-3
     is-name-requires-2
+    returns-2
     returns-3
-    returns-4
     enum-known-read-4
+    returns-4
     returns-5
     returns-6
     returns-7
     returns-8
-    returns-9
-    returns-10)
+    returns-9)

@@ -1,37 +1,22 @@
--- `wide::text_len`: the digits of the magnitude, and a place for the minus sign.
-use mathlib.Core.Path.{ap, _∙_, sym}
-use native.Mathlib.Omega.{arith}
-use lib.ListN.{length}
-use Rattle.wide.specs.Value.{val, value}
-use Rattle.wide.proofs.Decimals.{text-top}
-use Rattle.wide.proofs.Spelling.{minus-text, plain-text}
+-- `wide::text_len`: 34 for -2^127, for any other integer the length of its decimal.
+use mathlib.Core.Path.{ap, sym, _∙_}
 use borrow.Author.Needs.{needs}
+use lib.ListN.{length}
+use Rattle.wide.proofs.Decimals.{lowest-text, other-text}
 use Rattle.wide.proofs.text_len.Statement.{statement}
 use Rattle.wide.proofs.text_len.Tie as tie
 
-magnitude-requires : tie.Need-magnitude-requires
-magnitude-requires c κs = search needs
-
-count-requires : tie.Need-count-requires
-count-requires c κs = search needs
-
-negative-requires : tie.Need-negative-requires
-negative-requires c κs = search needs
-
-add-result : tie.Need-add-result
-add-result c = omega (arith, c .before .before .count .ensures, text-top (val (c .before .before .before .magnitude .result)))
+is-lowest-requires : tie.Need-is-lowest-requires
+is-lowest-requires c κs = search needs
 
 returns : tie.Need-returns
-returns c =
-    let e = minus-text (value (c .before .before .before .before .args .w)) _ _ (c .before .before .before .magnitude .ensures) (c .before .negative .ensures) (c .if1 .taken) in
-    omega (arith, c .before .before .count .ensures, ap length e)
+returns c = sym (ap length (lowest-text _ (sym (c .before .is-lowest .ensures) ∙ c .if1 .taken)))
+
+decimal-len-requires : tie.Need-decimal-len-requires
+decimal-len-requires c κs = search needs
 
 returns-2 : tie.Need-returns-2
-returns-2 c =
-    let e = plain-text (value (c .before .before .before .before .args .w)) _ _ (c .before .before .before .magnitude .ensures) (c .before .negative .ensures) (c .if1 .left) in
-    c .before .before .count .ensures ∙ sym (ap length e)
+returns-2 c = c .decimal-len .ensures ∙ sym (ap length (other-text _ (sym (c .before .before .is-lowest .ensures) ∙ c .before .if1 .left)))
 
 pub text-len-spec : {M : Type 1} → statement M
-text-len-spec =
-    tie.close
-    (tie.spec magnitude-requires count-requires negative-requires add-result returns returns-2)
+text-len-spec = tie.close (tie.spec is-lowest-requires returns decimal-len-requires returns-2)

@@ -246,7 +246,7 @@ measure-tree-bound : (t : ℕ) (c : measure-tree-lts.After-struct-known2 (measur
     × (c .before .before .before .before .before .step3 .given .0 .0 - headLen + 3 + c .before .before .before .measure-tree .result .len ≤ 8589934592)
 measure-tree-bound t c =
     let h = c .before .before .before .before .before .before .before .before .before .pre .1 in
-    let n = step-in _ _ (c .before .before .before .before .before .before .before .before .before .args .depth) _ _ (step.Binding _) (c .before .before .before .before .before .before .before .step-at .ensures) (c .before .before .before .before .before .step3 .given .1) in
+    let n = step-in _ (c .before .before .before .before .before .before .before .before .before .args .depth) _ _ (step.Binding _) (c .before .before .before .before .before .before .before .step-at .ensures) (c .before .before .before .before .before .step3 .given .1) in
     let y = got-tree _ _ _ _ _ _ _ (c .before .before .before .measure-tree .ensures) (c .before .if1 .left) in
     let g = small _ _ _ _ _ _ _ _ _ _ (λ i. (c .before .before .before .before .before .before .before .before .shared-slice-known .given i) .fits) (omega (arith, h .0, n .1)) (omega (arith, h .2, n .2)) y in
     (omega (arith, g .lines, g .within, h .0, h .1, n .1), omega (arith, g .lays, g .within, h .0, h .1, n .1))
@@ -264,10 +264,10 @@ measure-tree-enum-known-step-2 : (t : ℕ) → measure-tree-lts.Need-enum-known-
 measure-tree-enum-known-step-2 t c = search needs
 
 measure-tree-add-atom : (t : ℕ) → measure-tree-lts.Need-add-atom (measure-tree-calls t) (measure-tree-at t) measure-tree.Post
-measure-tree-add-atom t c = omega (arith, step-in _ _ (c .before .before .before .before .before .args .depth) _ _ (step.Symbol _) (c .before .before .before .step-at .ensures) (c .before .step2 .given .1))
+measure-tree-add-atom t c = omega (arith, step-in _ (c .before .before .before .before .before .args .depth) _ _ (step.Symbol _) (c .before .before .before .step-at .ensures) (c .before .step2 .given .1))
 
 measure-tree-sub-atom : (t : ℕ) → measure-tree-lts.Need-sub-atom (measure-tree-calls t) (measure-tree-at t) measure-tree.Post
-measure-tree-sub-atom t c = omega (arith, step-in _ _ (c .before .before .before .before .before .args .depth) _ _ (step.Symbol _) (c .before .before .before .step-at .ensures) (c .before .step2 .given .1))
+measure-tree-sub-atom t c = omega (arith, step-in _ (c .before .before .before .before .before .args .depth) _ _ (step.Symbol _) (c .before .before .before .step-at .ensures) (c .before .step2 .given .1))
 
 measure-tree-atom-requires : (t : ℕ) → measure-tree-lts.Need-atom-requires (measure-tree-calls t) (measure-tree-at t) measure-tree.Post
 measure-tree-atom-requires t c κs = search needs
@@ -276,10 +276,10 @@ measure-tree-enum-told : (t : ℕ) → measure-tree-lts.Need-enum-told (measure-
 measure-tree-enum-told t c = search needs
 
 measure-tree-add-atom-2 : (t : ℕ) → measure-tree-lts.Need-add-atom-2 (measure-tree-calls t) (measure-tree-at t) measure-tree.Post
-measure-tree-add-atom-2 t c = omega (arith, step-in _ _ (c .before .before .before .before .args .depth) _ _ step.Integer (c .before .before .step-at .ensures) (c .enum-told .given .1))
+measure-tree-add-atom-2 t c = omega (arith, step-in _ (c .before .before .before .before .args .depth) _ _ step.Integer (c .before .before .step-at .ensures) (c .enum-told .given .1))
 
 measure-tree-add-wide-at : (t : ℕ) → measure-tree-lts.Need-add-wide-at (measure-tree-calls t) (measure-tree-at t) measure-tree.Post
-measure-tree-add-wide-at t c = omega (arith, step-in _ _ (c .before .before .before .before .args .depth) _ _ step.Integer (c .before .before .step-at .ensures) (c .enum-told .given .1))
+measure-tree-add-wide-at t c = omega (arith, step-in _ (c .before .before .before .before .args .depth) _ _ step.Integer (c .before .before .step-at .ensures) (c .enum-told .given .1))
 
 measure-tree-wide-at-requires : (t : ℕ) → measure-tree-lts.Need-wide-at-requires (measure-tree-calls t) (measure-tree-at t) measure-tree.Post
 measure-tree-wide-at-requires t c κs = search needs
@@ -294,24 +294,24 @@ measure-tree-enum-known-step-3 : (t : ℕ) → measure-tree-lts.Need-enum-known-
 measure-tree-enum-known-step-3 t c = search needs
 
 measure-tree-sub-n : (t : ℕ) → measure-tree-lts.Need-sub-n (measure-tree-calls t) (measure-tree-at t) measure-tree.Post
-measure-tree-sub-n t c = omega (arith, step-in _ _ (c .before .before .before .before .before .args .depth) _ _ (step.Binding _) (c .before .before .before .step-at .ensures) (c .before .step3 .given .1))
+measure-tree-sub-n t c = omega (arith, step-in _ (c .before .before .before .before .before .args .depth) _ _ (step.Binding _) (c .before .before .before .step-at .ensures) (c .before .step3 .given .1))
 
 measure-tree-add-n : (t : ℕ) → measure-tree-lts.Need-add-n (measure-tree-calls t) (measure-tree-at t) measure-tree.Post
-measure-tree-add-n t c = omega (arith, step-in _ _ (c .before .before .before .before .before .args .depth) _ _ (step.Binding _) (c .before .before .before .step-at .ensures) (c .before .step3 .given .1))
+measure-tree-add-n t c = omega (arith, step-in _ (c .before .before .before .before .before .args .depth) _ _ (step.Binding _) (c .before .before .before .step-at .ensures) (c .before .step3 .given .1))
 
 measure-tree-add-measure-tree : (t : ℕ) → measure-tree-lts.Need-add-measure-tree (measure-tree-calls t) (measure-tree-at t) measure-tree.Post
-measure-tree-add-measure-tree t c = omega (arith, step-in _ _ (c .before .before .before .before .before .args .depth) _ _ (step.Binding _) (c .before .before .before .step-at .ensures) (c .before .step3 .given .1))
+measure-tree-add-measure-tree t c = omega (arith, step-in _ (c .before .before .before .before .before .args .depth) _ _ (step.Binding _) (c .before .before .before .step-at .ensures) (c .before .step3 .given .1))
 
 measure-tree-sub-measure-tree : (t : ℕ) → measure-tree-lts.Need-sub-measure-tree (measure-tree-calls t) (measure-tree-at t) measure-tree.Post
-measure-tree-sub-measure-tree t c = omega (arith, step-in _ _ (c .before .before .before .before .before .args .depth) _ _ (step.Binding _) (c .before .before .before .step-at .ensures) (c .before .step3 .given .1))
+measure-tree-sub-measure-tree t c = omega (arith, step-in _ (c .before .before .before .before .before .args .depth) _ _ (step.Binding _) (c .before .before .before .step-at .ensures) (c .before .step3 .given .1))
 
 measure-tree-add-measure-tree-2 : (t : ℕ) → measure-tree-lts.Need-add-measure-tree-2 (measure-tree-calls t) (measure-tree-at t) measure-tree.Post
-measure-tree-add-measure-tree-2 t c = let h = c .before .before .before .before .before .pre .1 in omega (arith, step-in _ _ (c .before .before .before .before .before .args .depth) _ _ (step.Binding _) (c .before .before .before .step-at .ensures) (c .before .step3 .given .1), h .0, h .1, h .3)
+measure-tree-add-measure-tree-2 t c = let h = c .before .before .before .before .before .pre .1 in omega (arith, step-in _ (c .before .before .before .before .before .args .depth) _ _ (step.Binding _) (c .before .before .before .step-at .ensures) (c .before .step3 .given .1), h .0, h .1, h .3)
 
 measure-tree-measure-tree-requires : (t : ℕ) → measure-tree-lts.Need-measure-tree-requires (measure-tree-calls t) (measure-tree-at t) measure-tree.Post
 measure-tree-measure-tree-requires t c κs =
     let h = c .before .before .before .before .before .pre .1 in
-    let n = step-in _ _ (c .before .before .before .before .before .args .depth) _ _ (step.Binding _) (c .before .before .before .step-at .ensures) (c .before .step3 .given .1) in
+    let n = step-in _ (c .before .before .before .before .before .args .depth) _ _ (step.Binding _) (c .before .before .before .step-at .ensures) (c .before .step3 .given .1) in
     (omega (arith, c .before .before .before .before .before .pre .0, n .2), (omega (arith, h .0, n .1), h .1, omega (arith, h .2, n .2), omega (arith, h .3, n .0)))
 
 measure-tree-stopped-requires-2 : (t : ℕ) → measure-tree-lts.Need-stopped-requires-2 (measure-tree-calls t) (measure-tree-at t) measure-tree.Post
@@ -330,15 +330,15 @@ measure-tree-enum-known-step-4 : (t : ℕ) → measure-tree-lts.Need-enum-known-
 measure-tree-enum-known-step-4 t c = search needs
 
 measure-tree-add-measure-list : (t : ℕ) → measure-tree-lts.Need-add-measure-list (measure-tree-calls t) (measure-tree-at t) measure-tree.Post
-measure-tree-add-measure-list t c = omega (arith, step-in _ _ (c .before .before .before .before .before .args .depth) _ _ (step.List _) (c .before .before .before .step-at .ensures) (c .before .step4 .given .1))
+measure-tree-add-measure-list t c = omega (arith, step-in _ (c .before .before .before .before .before .args .depth) _ _ (step.List _) (c .before .before .before .step-at .ensures) (c .before .step4 .given .1))
 
 measure-tree-sub-measure-list : (t : ℕ) → measure-tree-lts.Need-sub-measure-list (measure-tree-calls t) (measure-tree-at t) measure-tree.Post
-measure-tree-sub-measure-list t c = omega (arith, step-in _ _ (c .before .before .before .before .before .args .depth) _ _ (step.List _) (c .before .before .before .step-at .ensures) (c .before .step4 .given .1))
+measure-tree-sub-measure-list t c = omega (arith, step-in _ (c .before .before .before .before .before .args .depth) _ _ (step.List _) (c .before .before .before .step-at .ensures) (c .before .step4 .given .1))
 
 measure-tree-measure-list-requires : (t : ℕ) → measure-tree-lts.Need-measure-list-requires (measure-tree-calls t) (measure-tree-at t) measure-tree.Post
 measure-tree-measure-list-requires t c κs =
     let h = c .before .before .before .before .before .pre .1 in
-    let n = step-in _ _ (c .before .before .before .before .before .args .depth) _ _ (step.List _) (c .before .before .before .step-at .ensures) (c .before .step4 .given .1) in
+    let n = step-in _ (c .before .before .before .before .before .args .depth) _ _ (step.List _) (c .before .before .before .step-at .ensures) (c .before .step4 .given .1) in
     let hb : Bytes (c .before .before .before .before .before .args .t .now) = λ i. (c .before .before .before .before .shared-slice-known .given i) .fits in
     (omega (arith, c .before .before .before .before .before .pre .0, n .1), (omega (arith, h .0, n .0), h .1, omega (arith, h .2, n .1), omega (arith, h .3), list-few _ (c .before .before .before .before .before .args .depth) _ _ _ hb (c .before .before .before .step-at .ensures) (c .before .step4 .given .1)))
 
