@@ -23,8 +23,8 @@ pub trait Side {
     fn feeder(&self, source: &[u8]) -> Box<dyn Feeder>;
     /// The whole table, or the first of 3 to 13.
     fn read(&self, source: &[u8]) -> Result<Vec<u8>, Refusal>;
-    /// The table's trees, or the first of 15, 20, 21, 13, 16 and, where it is to be printed, 17; or 22.
-    fn check(&self, table: &[u8], printing: bool) -> Result<Vec<Tree>, Refusal>;
+    /// The table's trees, or the first of 15, 20, 21, 13 and 16; or 22.
+    fn check(&self, table: &[u8]) -> Result<Vec<Tree>, Refusal>;
     /// All trees' text at this width, with its count.
     fn lay_out(&self, trees: &[Tree], width: usize) -> Printed;
     /// A settings file's settings in order, or the place that its 23 names.
@@ -47,7 +47,7 @@ pub fn answer(side: &dyn Side, frame: &Frame, out: &mut Vec<u8>) {
             let printed = table.and_then(|table| print(side, &table, a, OUTPUT_ROOM));
             result("text", printed.map(text), false, out)
         }
-        b'K' => match side.check(source, a == 1) {
+        b'K' => match side.check(source) {
             Ok(_) => out.extend(b"good\n"),
             Err(refusal) => refusal.line(out),
         },
@@ -94,7 +94,7 @@ pub fn read(side: &dyn Side, source: &[u8], room: usize) -> Result<Vec<u8>, Refu
 
 /// Printing with a room: 18 comes last and names the whole size.
 pub fn print(side: &dyn Side, table: &[u8], width: usize, room: usize) -> Result<Printed, Refusal> {
-    let trees = side.check(table, true)?;
+    let trees = side.check(table)?;
     let printed = side.lay_out(&trees, width);
     let len = printed.text.len();
     if len > room { Err(refusal(18, len)) } else { Ok(printed) }

@@ -1,5 +1,6 @@
 //! What the unchanged crate answers: tokens with places, symbols, and the layout of trees.
-//! Where it has no answer (bytes that are not UTF-8, pieces, tables, unfitting empty lists, the fits test's count, settings), the documents'.
+//! Where it has no answer (bytes that are not UTF-8, pieces, tables, unfitting empty lists, the fits test's count, settings), the documents';
+//! and for trees with -2^127, which it prints as a decimal that its own lexer refuses.
 
 use std::str::from_utf8;
 
@@ -31,14 +32,14 @@ impl Side for CrateSide {
         read::table(source, &self.lex(source, 0))
     }
 
-    fn check(&self, table: &[u8], printing: bool) -> Result<Vec<Tree>, Refusal> {
-        table::trees(table, printing, &is_symbol)
+    fn check(&self, table: &[u8]) -> Result<Vec<Tree>, Refusal> {
+        table::trees(table, &is_symbol)
     }
 
     fn lay_out(&self, trees: &[Tree], width: usize) -> Printed {
         let page = layout::page(trees, width);
         let looked = page.looked;
-        if page.unfitting_empty_list || !trees.iter().all(is_text) {
+        if page.unfitting_empty_list || !trees.iter().all(is_alike) {
             return Printed { text: page.out, looked };
         }
         let mut out = Vec::new();
@@ -116,13 +117,13 @@ fn is_symbol(bytes: &[u8]) -> bool {
     }
 }
 
-/// The crate holds atoms as text.
-fn is_text(tree: &Tree) -> bool {
+/// The crate's print is the documents': it holds atoms as text, and all integers but the lowest have the same text there.
+fn is_alike(tree: &Tree) -> bool {
     match tree {
         Tree::Symbol(bytes) => from_utf8(bytes).is_ok(),
-        Tree::Int(_) => true,
-        Tree::Binding(name, inner) => from_utf8(name).is_ok() && is_text(inner),
-        Tree::List(items) => items.iter().all(is_text),
+        Tree::Int(value) => *value != i128::MIN,
+        Tree::Binding(name, inner) => from_utf8(name).is_ok() && is_alike(inner),
+        Tree::List(items) => items.iter().all(is_alike),
     }
 }
 

@@ -40,11 +40,19 @@ pub fn table_of(trees: &[Tree]) -> Vec<u8> {
     table
 }
 
+/// An integer as it is printed: decimal, but for -2^127, which no decimal with a minus sign reads as (document 02, 6/12).
+pub fn int_text(value: i128) -> String {
+    match value {
+        i128::MIN => format!("0x8{}", "0".repeat(31)),
+        value => value.to_string(),
+    }
+}
+
 /// Document 01's cost: what the fits test adds up over a subtree.
 pub fn cost(tree: &Tree) -> usize {
     match tree {
         Tree::Symbol(bytes) => bytes.len(),
-        Tree::Int(value) => value.to_string().len(),
+        Tree::Int(value) => int_text(*value).len(),
         Tree::Binding(name, inner) => name.len() + 3 + cost(inner),
         Tree::List(items) => items.iter().map(cost).sum::<usize>() + items.len() + 1,
     }

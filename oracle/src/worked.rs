@@ -4,6 +4,8 @@
 // by their paths, for host/src names this file by its own
 #[path = "worked/counts.rs"]
 mod counts;
+#[path = "worked/lowest.rs"]
+mod lowest;
 #[path = "worked/settings.rs"]
 mod settings;
 #[path = "worked/windows.rs"]
@@ -26,6 +28,7 @@ fn cases() -> Vec<Case> {
     cases.extend(checking());
     cases.extend(windows::cases());
     cases.extend(counts::cases());
+    cases.extend(lowest::cases());
     cases.extend(settings::cases());
     cases
 }
@@ -163,7 +166,6 @@ fn printing() -> Vec<Case> {
             "text 26\n2872756c65203120286620782040202867205f2929203136290a",
         ),
         w(100, "(a 12ab)", "refusal 6 at 5"),
-        w(100, "0x80000000000000000000000000000000", "refusal 17 at 0"),
         p(9, 2, "\x07\0\0\0\x01\0a", "print 2\n610a\nkept"),
         p(9, 1, "\x07\0\0\0\x01\0a", "refusal 18 at 2\nkept"),
         p(9, 9, "", "print 0\n\nkept"),
@@ -178,15 +180,12 @@ fn printing() -> Vec<Case> {
     ]
 }
 
-/// The table's check, for a host that wants to know a table without printing it (a = 0), or before it prints (a = 1).
+/// The table's check by itself; its number makes no difference.
 fn checking() -> Vec<Case> {
     let k = |a, table: &[u8], lines: &str| case('K', a, 0, table, lines);
-    let lowest = [&b"\x16\0\0\0\x02\0"[..], &[0; 15], &[128]].concat();
     vec![
         k(0, b"", "good"),
         k(0, b"\x07\0\0\0\x03\0x\x0a\0\0\0\x04\0\x01\0\0\0\x07\0\0\0\x01\0a", "good"),
-        k(1, &lowest, "refusal 17 at 0"),
-        k(0, &lowest, "good"),
         k(0, &b"\x07\0\0\0\x03\0n".repeat(65), "refusal 13 at 448"),
         k(0, &b"\x0a\0\0\0\x04\0\x01\0\0\0".repeat(65), "refusal 13 at 640"),
         k(1, b"\x06\0\0\0\x01\0", "refusal 16 at 0"),

@@ -71,7 +71,7 @@ fn row(count: usize, rng: &mut Rng) -> Vec<Tree> {
 
 fn atom(rng: &mut Rng) -> Tree {
     match rng.below(8) {
-        0 => Tree::Int(rng.pick(&[0, -7, 100, i128::MAX, -i128::MAX])),
+        0 => Tree::Int(rng.pick(&[0, -7, 100, i128::MAX, -i128::MAX, i128::MIN])),
         1 => Tree::Symbol(vec![b'w'; 1 + rng.below(40)]),
         _ => Tree::Symbol(vec![b'a'; 1 + rng.below(3)]),
     }

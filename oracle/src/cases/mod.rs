@@ -4,6 +4,7 @@ mod comments;
 mod limit;
 mod literals;
 mod looks;
+mod lowest;
 mod masks;
 mod pieces;
 pub mod settings;
@@ -21,13 +22,15 @@ use crate::frame::{Frame, SOURCE_ROOM};
 use crate::rng::Rng;
 use crate::token::LIMIT;
 use crate::worked;
+use lowest::Lowest;
 use settings::Files;
 use tables::SmallTrees;
 
 /// Real ISLE text to cut sources from, where it is at hand.
 const REAL: &str = concat!(env!("CARGO_MANIFEST_DIR"), "/../../shared/bench/real.isle");
 
-/// How often each family comes up among sources, among tables, among tables whose print is counted, and among settings files.
+/// How often each family comes up among sources, besides those where a source is printed too, among tables, among tables whose print
+/// is counted, and among settings files.
 const SOURCES: &[(&str, usize)] = &[
     ("pieces", 8),
     ("literals", 3),
@@ -38,8 +41,9 @@ const SOURCES: &[(&str, usize)] = &[
     ("trees", 2),
     ("real", 1),
 ];
-const TABLES: &[(&str, usize)] = &[("small", 4), ("tables", 3), ("broken", 3)];
-const COUNTED: &[(&str, usize)] = &[("small", 4), ("tables", 3), ("broken", 2), ("looks", 4)];
+const PRINTED: &[(&str, usize)] = &[("lowest", 2)];
+const TABLES: &[(&str, usize)] = &[("small", 4), ("tables", 3), ("broken", 3), ("lowest", 1)];
+const COUNTED: &[(&str, usize)] = &[("small", 4), ("tables", 3), ("broken", 2), ("looks", 4), ("lowest", 1)];
 const SETTINGS: &[(&str, usize)] = &[("orders", 15), ("cuts", 1), ("changed", 2), ("files", 2)];
 
 /// One source at the length limit in so many cases: each is a megabyte.
@@ -48,6 +52,7 @@ const LIMIT_EVERY: u64 = 2000;
 pub struct Cases {
     seed: u64,
     sources: Vec<&'static str>,
+    printed: Vec<&'static str>,
     tables: Vec<&'static str>,
     counted: Vec<&'static str>,
     settings: Vec<&'static str>,
@@ -56,6 +61,7 @@ pub struct Cases {
     sample: bool,
     real: Vec<u8>,
     small: SmallTrees,
+    lowest: Lowest,
     files: Files,
     /// The documents' own cases come first, by op, unless families are chosen.
     worked: BTreeMap<u8, Vec<Frame>>,
@@ -65,7 +71,7 @@ impl Cases {
     pub fn new(seed: u64, families: &[String], sample: bool) -> Result<Cases, String> {
         let chosen = |name: &str| families.is_empty() || families.iter().any(|family| family == name);
         let known = |name: &str| {
-            let mut all = SOURCES.iter().chain(TABLES).chain(COUNTED).chain(SETTINGS);
+            let mut all = SOURCES.iter().chain(PRINTED).chain(TABLES).chain(COUNTED).chain(SETTINGS);
             all.any(|(family, _)| *family == name) || name == "limit"
         };
         if let Some(name) = families.iter().find(|name| !known(name)) {
@@ -87,6 +93,7 @@ impl Cases {
         Ok(Cases {
             seed,
             sources: spread(SOURCES),
+            printed: [spread(SOURCES), spread(PRINTED)].concat(),
             tables: spread(TABLES),
             counted: spread(COUNTED),
             settings: spread(SETTINGS),
@@ -94,6 +101,7 @@ impl Cases {
             sample,
             real,
             small: SmallTrees::new(if sample { 4 } else { 7 }),
+            lowest: Lowest::new(sample),
             files: Files::new(),
             worked,
         })
@@ -124,12 +132,12 @@ impl Cases {
             let (family, turn) = self.turn(&self.settings, number, &mut rng);
             return self.files.frame(op, family, turn, &mut rng);
         }
-        let source = self.source(number, &mut rng);
+        let (source, width) = self.source(op, number, &mut rng);
         let len = source.len();
         let (a, b) = match op {
             b'L' => (start(len, &mut rng), 0),
             b'R' => (room_for_table(&source, &mut rng), 0),
-            b'W' => (width(20, &mut rng), 0),
+            b'W' => (width, 0),
             _ => cuts(len, &mut rng),
         };
         Frame { op, a: a as u32, b: b as u32, bytes: source }
@@ -138,6 +146,7 @@ impl Cases {
     fn families_of(&self, op: u8) -> &[&'static str] {
         match op {
             b'Q' => &self.counted,
+            b'W' => &self.printed,
             // the stored sample of V is older than the count, and keeps its tables
             b'V' if !self.sample => &self.counted,
             _ if takes_table(op) => &self.tables,
@@ -159,8 +168,12 @@ impl Cases {
         (family, if self.sample { rng.next() >> 8 } else { turn })
     }
 
-    fn source(&self, number: u64, rng: &mut Rng) -> Vec<u8> {
-        let (family, turn) = self.turn(&self.sources, number, rng);
+    /// A source, and a width for where it is printed.
+    fn source(&self, op: u8, number: u64, rng: &mut Rng) -> (Vec<u8>, usize) {
+        let (family, turn) = self.turn(self.families_of(op), number, rng);
+        if family == "lowest" {
+            return self.lowest.source(turn, rng);
+        }
         let mut source = match family {
             "pieces" if self.sample => pieces::random(5, rng),
             "pieces" => pieces::nth(turn).unwrap_or_else(|| pieces::random(9, rng)),
@@ -175,7 +188,8 @@ impl Cases {
         if self.sample {
             source.truncate(400);
         }
-        source
+        let width = if op == b'W' { width(20, rng) } else { 0 };
+        (source, width)
     }
 
     /// A source or a settings file at the limit; for an op that takes a table one with many records.
@@ -219,6 +233,7 @@ impl Cases {
         let (family, turn) = self.turn(self.families_of(op), number, rng);
         let (table, width) = match family {
             "small" => self.small.nth(turn, rng),
+            "lowest" => self.lowest.table(turn, rng),
             "looks" => looks::table(self.sample, rng),
             "broken" => (tables::broken(rng), width(30, rng)),
             _ => tables::random(self.sample, rng),
@@ -239,11 +254,12 @@ fn takes_settings(op: u8) -> bool {
 
 fn of_table(op: u8, table: Vec<u8>, width: usize, small: bool, rng: &mut Rng) -> Frame {
     match op {
+        // the number makes no difference
         b'K' => return Frame { op, a: rng.below(2) as u32, b: 0, bytes: table },
         b'V' | b'v' => return windows::frame(op, table, width, small, rng),
         _ => {}
     }
-    let need = match CrateSide.check(&table, true) {
+    let need = match CrateSide.check(&table) {
         Ok(trees) => layout::page(&trees, width).out.len(),
         Err(_) => table.len(),
     };

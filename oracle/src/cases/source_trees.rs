@@ -46,6 +46,8 @@ const GOOD: &[&str] = &[
     "-1",
     "é",
     "0x80000000000000000000000000000000",
+    // 2^127, which is read as -2^127
+    "170141183460469231731687303715884105728",
 ];
 
 pub fn source(rng: &mut Rng) -> Vec<u8> {
@@ -77,6 +79,23 @@ fn faults(rng: &mut Rng) -> Vec<u8> {
     text.into_bytes()
 }
 
+const MIDDLES: &[&str] = &[
+    "a",
+    "1",
+    "()",
+    "x @ y",
+    "x\x0c",
+    "x 12ab @",
+    "",
+    ")",
+    "@",
+    "x @",
+    "(a) (b)",
+    "x @ ()",
+    "12ab",
+    "0x80000000000000000000000000000000",
+];
+
 /// Lists, bindings or both, open 62 to 67 deep, with something in the middle and closers for most.
 fn deep(rng: &mut Rng) -> Vec<u8> {
     let (depth, mix) = (62 + rng.below(6), rng.below(4));
@@ -96,9 +115,7 @@ fn deep(rng: &mut Rng) -> Vec<u8> {
         // a number directly before a name would swallow it
         text.push_str(if text.ends_with('1') { " " } else { "" });
     }
-    let middle =
-        ["a", "1", "()", "x @ y", "x\x0c", "x 12ab @", "", ")", "@", "x @", "(a) (b)", "x @ ()", "12ab"];
-    text.push_str(rng.pick(&middle));
+    text.push_str(rng.pick(MIDDLES));
     let closers = if rng.one_in(4) { rng.below(lists + 3) } else { lists };
     text.extend(std::iter::repeat_n(')', closers));
     text.push_str(rng.pick(&["", "", " b", "(c)", ")", "@", "\x0c"]));

@@ -8,19 +8,8 @@ pub struct SmallTrees(Vec<Tree>);
 
 impl SmallTrees {
     pub fn new(most: usize) -> SmallTrees {
-        let atoms = vec![Tree::Symbol(b"ab".to_vec()), Tree::Int(-7), Tree::List(Vec::new())];
-        // by number of nodes: trees, and rows of trees
-        let mut trees: Vec<Vec<Tree>> = vec![Vec::new(), atoms];
-        let mut rows: Vec<Vec<Vec<Tree>>> = vec![vec![Vec::new()]];
-        for nodes in 2..=most {
-            rows.push(rows_of(nodes - 1, &trees, &rows));
-            let bound =
-                trees[nodes - 1].iter().map(|tree| Tree::Binding(b"x".to_vec(), Box::new(tree.clone())));
-            let lists = rows[nodes - 1].iter().map(|row| Tree::List(row.clone()));
-            let next = bound.chain(lists).collect();
-            trees.push(next);
-        }
-        SmallTrees(trees.concat())
+        let leaves = vec![Tree::Symbol(b"ab".to_vec()), Tree::Int(-7), Tree::List(Vec::new())];
+        SmallTrees(trees_of(leaves, most))
     }
 
     /// Each tree at every width from 0 to beyond its cost, and at the largest.
@@ -39,6 +28,21 @@ impl SmallTrees {
         }
         (table_of(&trees), width)
     }
+}
+
+/// All trees up to a number of nodes over these leaves, of which the empty list may be one.
+pub fn trees_of(leaves: Vec<Tree>, most: usize) -> Vec<Tree> {
+    // by number of nodes: trees, and rows of trees
+    let mut trees: Vec<Vec<Tree>> = vec![Vec::new(), leaves];
+    let mut rows: Vec<Vec<Vec<Tree>>> = vec![vec![Vec::new()]];
+    for nodes in 2..=most {
+        rows.push(rows_of(nodes - 1, &trees, &rows));
+        let bound = trees[nodes - 1].iter().map(|tree| Tree::Binding(b"x".to_vec(), Box::new(tree.clone())));
+        let lists = rows[nodes - 1].iter().map(|row| Tree::List(row.clone()));
+        let next = bound.chain(lists).collect();
+        trees.push(next);
+    }
+    trees.concat()
 }
 
 fn rows_of(nodes: usize, trees: &[Vec<Tree>], rows: &[Vec<Vec<Tree>>]) -> Vec<Vec<Tree>> {
@@ -74,8 +78,24 @@ const SYMBOLS: &[&str] = &[
 ];
 /// How many of them are symbols.
 const GOOD: usize = 10;
-const NUMBERS: &[i128] =
-    &[0, 1, -1, 9, 10, -10, 1 << 64, (1 << 64) - 1, -(1 << 64), i128::MAX, -i128::MAX, 1 << 63, 1 << 127 - 1];
+/// The last, the one that is not printed as a decimal, is there twice.
+const NUMBERS: &[i128] = &[
+    0,
+    1,
+    -1,
+    9,
+    10,
+    -10,
+    1 << 64,
+    (1 << 64) - 1,
+    -(1 << 64),
+    i128::MAX,
+    -i128::MAX,
+    1 << 63,
+    1 << 126,
+    i128::MIN,
+    i128::MIN,
+];
 
 fn symbol(rng: &mut Rng) -> Vec<u8> {
     match rng.below(12) {
@@ -90,7 +110,7 @@ fn integer(rng: &mut Rng) -> i128 {
         return rng.pick(NUMBERS);
     }
     let bits = (rng.next() as u128) << 64 | rng.next() as u128;
-    ((bits as i128) >> rng.below(128)).max(-i128::MAX)
+    (bits as i128) >> rng.below(128)
 }
 
 fn tree(depth: usize, rng: &mut Rng) -> Tree {
@@ -177,14 +197,13 @@ pub fn damage(table: &mut Vec<u8>, rng: &mut Rng) {
 }
 
 fn bad_record(table: &mut Vec<u8>, rng: &mut Rng) {
-    match rng.below(8) {
+    match rng.below(7) {
         0 => put_record(table, rng.below(7) as u16, b"a"),
         1 => put_record(table, 4, &(rng.below(4) as u32).to_le_bytes()),
         2 => put_record(table, 4, &u32::MAX.to_le_bytes()),
-        3 => put_record(table, 2, &i128::MIN.to_le_bytes()),
-        4 => put_record(table, 1 + 2 * rng.below(2) as u16, rng.pick(&SYMBOLS[GOOD..]).as_bytes()),
-        5 => put_record(table, 2, &vec![0; 15 + rng.below(3)]),
-        6 => {
+        3 => put_record(table, 1 + 2 * rng.below(2) as u16, rng.pick(&SYMBOLS[GOOD..]).as_bytes()),
+        4 => put_record(table, 2, &vec![0; 15 + rng.below(3)]),
+        5 => {
             table.extend((rng.below(8) as u32).to_le_bytes());
             table.extend([1 + rng.below(4) as u8, 0]);
         }

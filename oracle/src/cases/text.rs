@@ -6,8 +6,19 @@ const WORDS: &[&str] = &[
     "rule", "decl", "type", "extern", "a", "x", "_", "$I64", "=q", "has_type", "Opcode.A", "é", "x86_add",
     "i32.-1", "u64", "ty", "+", "\u{b}v", "if-let", "日本",
 ];
-const NUMBERS: &[&str] =
-    &["0", "1", "-1", "0x10", "0b1_01", "0o17", "12_34", "-0xff", "0xFFFF_FFFF_FFFF_FFFF", "128"];
+const NUMBERS: &[&str] = &[
+    "0",
+    "1",
+    "-1",
+    "0x10",
+    "0b1_01",
+    "0o17",
+    "12_34",
+    "-0xff",
+    "0xFFFF_FFFF_FFFF_FFFF",
+    "128",
+    "0x8000_0000_0000_0000_0000_0000_0000_0000",
+];
 const BETWEEN: &[&str] = &[" ", " ", " ", "\n", "\n  ", "\t", "\r\n", " ;; why\n", " (; c ;) ", "(;(;;);)"];
 
 pub fn isle(rng: &mut Rng) -> Vec<u8> {

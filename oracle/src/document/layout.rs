@@ -1,7 +1,7 @@
-//! Document 01, "How a table is laid out". It says also where the crate would panic.
+//! Document 01, "How a table is laid out", with document 02's text of -2^127. It says also where the crate would panic.
 
 use crate::document::looking::looks;
-use crate::tree::{Tree, cost};
+use crate::tree::{Tree, cost, int_text};
 
 pub struct Page {
     pub out: Vec<u8>,
@@ -50,7 +50,7 @@ impl Page {
     fn tree(&mut self, tree: &Tree, one_line: bool) {
         match tree {
             Tree::Symbol(bytes) => self.put(bytes),
-            Tree::Int(value) => self.put(value.to_string().as_bytes()),
+            Tree::Int(value) => self.put(int_text(*value).as_bytes()),
             Tree::Binding(name, inner) => {
                 self.put(name);
                 self.put(b" @ ");

@@ -1,6 +1,6 @@
 //! Document 02, "Tell us how much the fits test looks at": what the test of one list looks at.
 
-use crate::tree::Tree;
+use crate::tree::{Tree, int_text};
 
 /// Each record's own share of the cost, in preorder: all that a list adds stands at its own record.
 pub fn shares(tree: &Tree) -> Vec<usize> {
@@ -12,7 +12,7 @@ pub fn shares(tree: &Tree) -> Vec<usize> {
 fn put_shares(tree: &Tree, shares: &mut Vec<usize>) {
     match tree {
         Tree::Symbol(bytes) => shares.push(bytes.len()),
-        Tree::Int(value) => shares.push(value.to_string().len()),
+        Tree::Int(value) => shares.push(int_text(*value).len()),
         Tree::Binding(name, inner) => {
             shares.push(name.len() + 3);
             put_shares(inner, shares);

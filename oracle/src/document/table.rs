@@ -10,12 +10,8 @@ struct Open {
     due: usize,
 }
 
-/// Its trees, or the first refusal: in each record 15, 20, 21, 13, 16 and at printing 17, and 22 for missing trees at the end.
-pub fn trees(
-    table: &[u8],
-    printing: bool,
-    is_symbol: &dyn Fn(&[u8]) -> bool,
-) -> Result<Vec<Tree>, Refusal> {
+/// Its trees, or the first refusal: in each record 15, 20, 21, 13, 16, and 22 for missing trees at the end.
+pub fn trees(table: &[u8], is_symbol: &dyn Fn(&[u8]) -> bool) -> Result<Vec<Tree>, Refusal> {
     if table.len() > TABLE_LIMIT {
         return Err(refusal(1, TABLE_LIMIT));
     }
@@ -31,7 +27,6 @@ pub fn trees(
         let number = |bytes: &[u8]| bytes.iter().rev().fold(0u128, |n, byte| n << 8 | *byte as u128);
         match kind {
             1 => complete(&mut whole, &mut open, Tree::Symbol(payload.to_vec())),
-            2 if printing && number(payload) == 1 << 127 => return Err(refusal(17, at)),
             2 => complete(&mut whole, &mut open, Tree::Int(number(payload) as i128)),
             3 => open.push(Open { name: Some(payload.to_vec()), items: Vec::new(), due: 1 }),
             _ if number(payload) == 0 => complete(&mut whole, &mut open, Tree::List(Vec::new())),

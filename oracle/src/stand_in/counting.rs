@@ -1,6 +1,6 @@
 //! The count of the fits test from what is left of the width alone: with no text, no cost and no list of shares.
 
-use crate::tree::Tree;
+use crate::tree::{Tree, int_text};
 
 /// Over all trees, each from column 0 on.
 pub fn looked(trees: &[Tree], width: usize) -> usize {
@@ -38,7 +38,7 @@ impl Test {
         self.looked += 1;
         let (share, inside): (usize, &[Tree]) = match tree {
             Tree::Symbol(bytes) => (bytes.len(), &[]),
-            Tree::Int(value) => (value.to_string().len(), &[]),
+            Tree::Int(value) => (int_text(*value).len(), &[]),
             Tree::Binding(name, inner) => (name.len() + 3, std::slice::from_ref(inner)),
             Tree::List(items) => (items.len() + 1, items),
         };

@@ -73,19 +73,19 @@ impl Source<'_> {
     }
 }
 
-/// The trees of a table, or the first of 15, 20, 21, 13, 16 and at printing 17; or 22 where a tree is due at the end.
-pub fn table_trees(table: &[u8], printing: bool) -> Result<Vec<Tree>, Refusal> {
+/// The trees of a table, or the first of 15, 20, 21, 13 and 16; or 22 where a tree is due at the end.
+pub fn table_trees(table: &[u8]) -> Result<Vec<Tree>, Refusal> {
     if table.len() > TABLE_LIMIT {
         return Err(refusal(1, TABLE_LIMIT));
     }
     let (mut trees, mut at) = (Vec::new(), 0);
     while at < table.len() {
-        trees.push(table_tree(table, printing, &mut at, 0)?);
+        trees.push(table_tree(table, &mut at, 0)?);
     }
     Ok(trees)
 }
 
-fn table_tree(table: &[u8], printing: bool, at: &mut usize, depth: usize) -> Result<Tree, Refusal> {
+fn table_tree(table: &[u8], at: &mut usize, depth: usize) -> Result<Tree, Refusal> {
     let start = *at;
     let rest = &table[start..];
     if rest.len() < 6 {
@@ -112,11 +112,8 @@ fn table_tree(table: &[u8], printing: bool, at: &mut usize, depth: usize) -> Res
     *at += len;
     match kind {
         1 => Ok(Tree::Symbol(payload.to_vec())),
-        2 => match i128::from_le_bytes(payload.try_into().expect("22 bytes less 6")) {
-            i128::MIN if printing => Err(refusal(17, start)),
-            value => Ok(Tree::Int(value)),
-        },
-        3 => Ok(Tree::Binding(payload.to_vec(), Box::new(table_tree(table, printing, at, depth + 1)?))),
-        _ => (0..word(6)).map(|_| table_tree(table, printing, at, depth + 1)).collect::<Result<_, _>>().map(Tree::List),
+        2 => Ok(Tree::Int(i128::from_le_bytes(payload.try_into().expect("22 bytes less 6")))),
+        3 => Ok(Tree::Binding(payload.to_vec(), Box::new(table_tree(table, at, depth + 1)?))),
+        _ => (0..word(6)).map(|_| table_tree(table, at, depth + 1)).collect::<Result<_, _>>().map(Tree::List),
     }
 }

@@ -30,8 +30,8 @@ impl Side for StandIn {
         Ok(table_of(&descent::source_trees(source)?))
     }
 
-    fn check(&self, table: &[u8], printing: bool) -> Result<Vec<Tree>, Refusal> {
-        descent::table_trees(table, printing)
+    fn check(&self, table: &[u8]) -> Result<Vec<Tree>, Refusal> {
+        descent::table_trees(table)
     }
 
     fn lay_out(&self, trees: &[Tree], width: usize) -> Printed {

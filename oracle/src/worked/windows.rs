@@ -79,12 +79,10 @@ fn whole() -> Vec<Case> {
 
 /// Every number, and the first call finds it, also with an empty window.
 fn refused() -> Vec<Case> {
-    let lowest = [&b"\x16\0\0\0\x02\0"[..], &[0; 15], &[128]].concat();
     let tables: &[(&[u8], &str)] = &[
         (&b"\x07\0\0\0\x03\0n".repeat(65), "refusal 13 at 448"),
         (b"\x07\0\0\0\x01\0", "refusal 15 at 0"),
         (&[ATOM, NO_SYMBOL].concat(), "refusal 16 at 7"),
-        (&[PAIR, &lowest].concat(), "refusal 17 at 24"),
         (b"\x07\0\0\0\x05\0x", "refusal 20 at 0"),
         (b"\x07\0\0\0\x02\0x", "refusal 21 at 0"),
         (b"\x07\0\0\0\x03\0x", "refusal 22 at 7"),

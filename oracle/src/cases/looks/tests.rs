@@ -142,7 +142,7 @@ fn cases_of_q_tell_counts_apart() {
         let (mut differ, mut show) = ([0; WRONG.len()], [0; SHOWN.len()]);
         for number in 0..number {
             let frame = cases.frame(b'Q', number);
-            let Ok(trees) = CrateSide.check(after_layout(&frame.bytes), true) else { continue };
+            let Ok(trees) = CrateSide.check(after_layout(&frame.bytes)) else { continue };
             let (width, mut met) = (frame.a as usize, Vec::new());
             for (at, tree) in trees.iter().enumerate() {
                 let last = at + 1 == trees.len();

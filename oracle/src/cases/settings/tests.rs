@@ -119,7 +119,7 @@ impl Side for Rules {
         unreachable!("settings alone")
     }
 
-    fn check(&self, _: &[u8], _: bool) -> Result<Vec<Tree>, Refusal> {
+    fn check(&self, _: &[u8]) -> Result<Vec<Tree>, Refusal> {
         unreachable!("settings alone")
     }
 
