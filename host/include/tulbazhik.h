@@ -17,8 +17,8 @@
 #include <stdint.h>
 
 /* MAJOR grows when something changes that a caller relies on, MINOR when something is added. */
-#define TULBAZHIK_VERSION_MAJOR 2
-#define TULBAZHIK_VERSION_MINOR 3
+#define TULBAZHIK_VERSION_MAJOR 3
+#define TULBAZHIK_VERSION_MINOR 0
 
 /* Bytes of a source; bytes of a table, enough for the table of any source; bytes of a settings file; lists and bindings open at
    once. */
@@ -80,7 +80,8 @@ enum {
     TULBAZHIK_NEITHER = 3  /* the setting is in neither file: with NOT_SET alone */
 };
 
-/* The numbers of refusals, and the place that each names. No refusal changes a byte of a room. */
+/* The numbers of refusals, and the place that each names. No refusal changes a byte of a room. The number 17 is retired (document
+   02, 6/12): it is never given, and will not be used again. */
 enum {
     TULBAZHIK_TOO_LONG = 1,         /* source, table, feed or settings file too long; its limit */
     TULBAZHIK_PAST_SOURCE = 2,      /* the start is past the source; the source's length */
@@ -98,7 +99,6 @@ enum {
     TULBAZHIK_TABLE_ROOM = 14,      /* the table needs more room; the bytes needed */
     TULBAZHIK_BAD_RECORD = 15,      /* a record cut short, or its length below 6 or past the table; the record */
     TULBAZHIK_BAD_SYMBOL = 16,      /* a symbol or name that the lexer would not read as one; the record */
-    TULBAZHIK_LOWEST = 17,          /* the integer -2^127 at printing; the record */
     TULBAZHIK_PRINT_ROOM = 18,      /* the print, or the copy of a settings file, needs more room; the bytes needed */
     TULBAZHIK_FED_AFTER_CLOSE = 19, /* fed after a close; the bytes consumed so far */
     TULBAZHIK_UNKNOWN_KIND = 20,    /* a record of unknown kind; the record */
@@ -174,6 +174,7 @@ void tulbazhik_read(const uint8_t *source, size_t length, uint8_t *table, size_t
     TULBAZHIK_NONNULL;
 
 /* A table laid out at a width as a text in `text`: DONE, or REFUSED. Bytes of the room after the text stay as they were.
+   Integers are decimal, but for -2^127: it is `0x8` and 31 zeros, for no spelling with a minus is read as it.
    With DONE, `looked` is how many records the fits test looked at. A list is tested unless it is inside one that fitted; a test
    looks at the list's records in preorder, up to and including the one that settles that it does not fit, or at all of its
    own, and at none if the column is past the width. The number is at most 64 times the records in the table; where it is many

@@ -1,4 +1,5 @@
 //! The numbers of refusals by name, and the limits. An [`Error`](crate::Error) has one of these as its number.
+//! The number 17 is retired (document 02, 6/12): it is never given, and will not be used again.
 
 /// Bytes of a source.
 pub const SOURCE_LIMIT: usize = 1_048_576;
@@ -25,7 +26,6 @@ pub const TOO_DEEP: u8 = 13;
 pub const TABLE_ROOM: u8 = 14;
 pub const BAD_RECORD: u8 = 15;
 pub const BAD_SYMBOL: u8 = 16;
-pub const LOWEST: u8 = 17;
 pub const PRINT_ROOM: u8 = 18;
 pub const FED_AFTER_CLOSE: u8 = 19;
 pub const UNKNOWN_KIND: u8 = 20;
@@ -54,7 +54,6 @@ pub fn meaning(number: u8) -> &'static str {
         TABLE_ROOM => "the table needs more room, in bytes",
         BAD_RECORD => "a record is cut short, or its length is below 6 or past the table",
         BAD_SYMBOL => "a symbol that the lexer would not read as one",
-        LOWEST => "the integer -2^127 has no spelling to print",
         PRINT_ROOM => "the print or the copy needs more room, in bytes",
         FED_AFTER_CLOSE => "fed after a close",
         UNKNOWN_KIND => "a record of unknown kind",
