@@ -1,4 +1,4 @@
--- What is printed (document 02, 6/12), and that it, whole or through windows, cut anywhere, fed and closed, gives the tokens of what was printed: THEOREMS good-printed, read-printed, print-then-feed, windows-then-feed.
+-- Which tables are printed (document 02, 6/12: all good ones), and that their text, whole or through windows, cut anywhere, fed and closed, gives their tokens: THEOREMS good-printed, read-printed, print-then-feed, windows-then-feed.
 use mathlib.Core.Path.{_≡_}
 use mathlib.Core.List.{List}
 use Prim.Native.Nat.{ℕ, _+_, _*_, _≤_, _<_}
