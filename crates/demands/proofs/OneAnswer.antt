@@ -26,9 +26,11 @@ use Rattle.feeder.specs.declared.Answer.the-variants as answer
 use Rattle.feeder.specs.declared.Out.{Out}
 use Rattle.feeder.specs.declared.Fed.{Fed}
 use Rattle.feeder.specs.Feeding.{Fed as Called, replyOf, fedOf}
+use denote.Ref.{now}
+use Rattle.table.proofs.Walks.{one-walk}
 use Rattle.table.specs.declared.Checked.{Checked}
 use Rattle.table.specs.declared.Checked.the-variants as checked
-use Rattle.table.specs.Decoding.{verdictOf}
+use Rattle.table.specs.Decoding.{verdictOf, treeAt}
 use Rattle.printer.specs.declared.Printed.{Printed}
 use Rattle.printer.specs.declared.Printed.the-variants as printed
 use Rattle.printer.specs.Printing.{printOf}
@@ -267,6 +269,10 @@ one-answer = record {
   table·is-symbol = λ κs a x y s t e f. e ∙ sym f;
   table·step-at = λ κs a x y s t e f. e ∙ sym f;
   table·past-symbol = λ κs a x y s t e f. e ∙ sym f;
+  table·stored-cost = λ κs a x y s t e f. e ∙ sym f;
+  table·walk·earlier = λ κs a x y s t e f. e ∙ sym f;
+  table·walk·own-wrong = λ κs a x y s t e f. e ∙ sym f;
+  table·walk·walk-tree = λ κs a x y s t e f. one-walk (now (a .0)) (a .1 .0) (treeAt (now (a .0)) (a .1 .1 .0) (a .1 .0)) x y e f;
   table·past = λ κs a x y s t e f. e ∙ sym f;
   table·check = λ κs a x y s t e f. verdict-same x y (e ∙ sym f);
   reader·read = λ κs a x y s t e f. (read-same x y (e .0 ∙ sym (f .0)), e .1 ∙ sym (f .1));

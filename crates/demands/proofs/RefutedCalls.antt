@@ -4,7 +4,7 @@ use mathlib.Core.Bool.{true, false}
 use mathlib.Core.List.{List, [], _∷_}
 use Prim.Native.Nat.{ℕ}
 use native.Mathlib.Omega.{arith}
-use lib.ListN.{replicate}
+use lib.ListN.{take, replicate}
 use Rattle.refusals.specs.Numbers.{depthLimit}
 use Rattle.refusals.specs.Result.{ok, refused}
 use Rattle.classes.specs.Classes.{classOf}
@@ -17,12 +17,14 @@ use Rattle.feeder.specs.declared.State.{State}
 use Rattle.feeder.specs.declared.Mode.the-variants.{Blank, Symbol as InSymbol}
 use Rattle.feeder.specs.Machine.{turn, step, closing}
 use Rattle.feeder.specs.Feeding.{more, finish, ready, Fed, fed, live, closed, dead, freshState, feedFrom, feedOf, closeOf}
-use Rattle.table.specs.declared.Record.the-variants.{Symbol, Bad}
+use Rattle.table.specs.declared.Record.the-variants.{Symbol, List as ListOf, Bad}
 use Rattle.table.specs.declared.Step.the-variants as judged-as
+use Rattle.table.specs.Costs.{costed, storedCost}
 use Rattle.table.specs.Past.{pastSymbol, pastOf}
-use Rattle.table.specs.Trees.{runsOn, isSymbol}
+use Rattle.table.specs.Walking.{firstOf, ownWrong, Walks}
+use Rattle.table.specs.Trees.{runsOn, isSymbol, cost}
 use Rattle.table.specs.Records.{recordAt}
-use Rattle.table.specs.Decoding.{itemsAt, stepAt, treeAt, treesAt, tableOf, judged}
+use Rattle.table.specs.Decoding.{itemsAt, stepAt, treeAt, treesAt, tableOf, judged, shapeOf}
 use Rattle.demands.proofs.Refuted.{Not}
 
 -- feeder::fresh: a byte was consumed; it is closed
@@ -112,9 +114,18 @@ record-past : Not (Symbol 7 ≡ recordAt (7 ∷ 0 ∷ 0 ∷ 0 ∷ 1 ∷ 0 ∷ []
 unfolding recordAt headAt number
 record-past e = let z : _≡_ {A = ℕ} 0 1 = cc in omega arith
 
-record-kind : Not (Bad 20 ≡ recordAt (5 ∷ 0 ∷ 0 ∷ 0 ∷ 5 ∷ 0 ∷ []) 0)
+record-kind : Not (Bad 20 ≡ recordAt (5 ∷ 0 ∷ 0 ∷ 0 ∷ 4 ∷ 0 ∷ []) 0)
 unfolding recordAt headAt number
 record-kind e = let z : _≡_ {A = ℕ} 20 15 = cc in omega arith
+
+-- a list as it was before it stored its cost: by its kind, which is 20 now, and by its length, which is 21
+record-old : Not (ListOf 0 ≡ recordAt (10 ∷ 0 ∷ 0 ∷ 0 ∷ 4 ∷ 0 ∷ replicate 4 0) 0)
+unfolding recordAt headAt number
+record-old e = let z : _≡_ {A = ℕ} 0 1 = cc in omega arith
+
+record-short : Not (Bad 20 ≡ recordAt (10 ∷ 0 ∷ 0 ∷ 0 ∷ 5 ∷ 0 ∷ replicate 4 0) 0)
+unfolding recordAt headAt number
+record-short e = let z : _≡_ {A = ℕ} 20 21 = cc in omega arith
 
 record-missing : Not (Bad 15 ≡ recordAt [] 0)
 unfolding recordAt headAt number
@@ -134,11 +145,11 @@ step-empty : Not (judged-as.Symbol 6 ≡ stepAt (6 ∷ 0 ∷ 0 ∷ 0 ∷ 1 ∷ 0
 unfolding stepAt recordAt headAt number isSymbol
 step-empty e = let z : _≡_ {A = ℕ} 0 1 = cc in omega arith
 
-step-deep : Not (judged-as.List 0 ≡ stepAt (10 ∷ 0 ∷ 0 ∷ 0 ∷ 4 ∷ 0 ∷ 0 ∷ 0 ∷ 0 ∷ 0 ∷ []) 0 false)
+step-deep : Not (judged-as.List 0 ≡ stepAt (14 ∷ 0 ∷ 0 ∷ 0 ∷ 5 ∷ 0 ∷ replicate 8 0) 0 false)
 unfolding stepAt recordAt headAt number
 step-deep e = let z : _≡_ {A = ℕ} 0 1 = cc in omega arith
 
-step-length : Not (judged-as.Fault 13 ≡ stepAt (11 ∷ 0 ∷ 0 ∷ 0 ∷ 4 ∷ 0 ∷ 0 ∷ 0 ∷ 0 ∷ 0 ∷ 0 ∷ []) 0 false)
+step-length : Not (judged-as.Fault 13 ≡ stepAt (15 ∷ 0 ∷ 0 ∷ 0 ∷ 5 ∷ 0 ∷ replicate 9 0) 0 false)
 unfolding stepAt recordAt headAt number
 step-length e = let z : _≡_ {A = ℕ} 13 21 = cc in omega arith
 
@@ -152,19 +163,74 @@ unfolding pastSymbol recordAt headAt number isSymbol runsOn classOf
 past-stays e = omega arith
 
 -- table::past: past a list's record and not its item; past a list whose item is missing
-past-item : Not (10 ≡ pastOf 0 (treeAt (10 ∷ 0 ∷ 0 ∷ 0 ∷ 4 ∷ 0 ∷ 1 ∷ 0 ∷ 0 ∷ 0 ∷ 7 ∷ 0 ∷ 0 ∷ 0 ∷ 1 ∷ 0 ∷ 97 ∷ []) depthLimit 0))
+past-item : Not (14 ≡ pastOf 0 (treeAt (14 ∷ 0 ∷ 0 ∷ 0 ∷ 5 ∷ 0 ∷ 1 ∷ 0 ∷ 0 ∷ 0 ∷ 3 ∷ 0 ∷ 0 ∷ 0 ∷ 7 ∷ 0 ∷ 0 ∷ 0 ∷ 1 ∷ 0 ∷ 97 ∷ []) depthLimit 0))
 unfolding treeAt itemsAt recordAt headAt stepAt number isSymbol runsOn classOf
 past-item e = omega arith
 
-past-missing : Not (10 ≡ pastOf 0 (treeAt (10 ∷ 0 ∷ 0 ∷ 0 ∷ 4 ∷ 0 ∷ 1 ∷ 0 ∷ 0 ∷ 0 ∷ []) depthLimit 0))
+past-missing : Not (14 ≡ pastOf 0 (treeAt (14 ∷ 0 ∷ 0 ∷ 0 ∷ 5 ∷ 0 ∷ 1 ∷ 0 ∷ 0 ∷ 0 ∷ 3 ∷ 0 ∷ 0 ∷ 0 ∷ []) depthLimit 0))
 unfolding treeAt itemsAt recordAt headAt stepAt number
 past-missing e = omega arith
 
+-- a list of n items that stores the cost k, and their records
+abbrev costly : ℕ → ℕ → List ℕ → List ℕ
+costly n k items = 14 ∷ 0 ∷ 0 ∷ 0 ∷ 5 ∷ 0 ∷ n ∷ 0 ∷ 0 ∷ 0 ∷ k ∷ 0 ∷ 0 ∷ 0 ∷ items
+
+-- table::stored_cost: the item count; the bytes that are left of it where the table ends inside it
+stored-count : Not (1 ≡ storedCost (costly 1 3 []) 0)
+unfolding storedCost number
+stored-count e = omega arith
+
+stored-part : Not (3 ≡ storedCost (take 13 (costly 1 3 [])) 0)
+unfolding storedCost number
+stored-part e = omega arith
+
+-- table::walk::earlier: the smaller place and not the first; what stands for none, where one is found next
+earlier-least : Not (1 ≡ firstOf 9 3 1)
+earlier-least e = omega arith
+
+earlier-none : Not (9 ≡ firstOf 9 9 4)
+earlier-none e = omega arith
+
+-- table::walk::own_wrong: none, where another cost is stored; the list's place, where it is right
+own-none : Not (14 ≡ ownWrong (costly 0 2 []) 0 1)
+unfolding storedCost number
+own-none e = omega arith
+
+own-always : Not (0 ≡ ownWrong (costly 0 1 []) 0 1)
+unfolding storedCost number
+own-always e = omega arith
+
+-- table::walk::walk_tree of `()`: a cost one off; no wrong cost, where 2 is stored; a list left open
+walk-cost : Not (Walks (costly 0 1 []) 0 (treeAt (costly 0 1 []) 1 0) (record { number = 0; place = 14; cost = 2; empty = 1; wrong = 14 }))
+unfolding treeAt itemsAt recordAt headAt stepAt number cost
+walk-cost e = let z : _≡_ {A = ℕ} 2 1 = e .2 in omega arith
+
+walk-trusts : Not (Walks (costly 0 2 []) 0 (treeAt (costly 0 2 []) 1 0) (record { number = 0; place = 14; cost = 1; empty = 1; wrong = 14 }))
+unfolding treeAt itemsAt recordAt headAt stepAt number cost costed storedCost
+walk-trusts e = let z : _≡_ {A = ℕ} 14 0 = e .4 in omega arith
+
+walk-deep : Not (Walks (costly 0 1 []) 0 (treeAt (costly 0 1 []) 0 0) (record { number = 0; place = 14; cost = 1; empty = 1; wrong = 14 }))
+unfolding treeAt recordAt headAt stepAt number
+walk-deep e = let z : _≡_ {A = ℕ} 0 13 = e .0 in omega arith
+
 -- table::check: the empty table is refused; a table that ends inside a list is good
 check-empty : Not (refused 15 0 ≡ judged (tableOf []))
-unfolding tableOf treesAt
+unfolding tableOf shapeOf cost costed storedCost treesAt
 check-empty e = let z : _≡_ {A = ℕ} 0 1 = cc in omega arith
 
-check-missing : Not (ok tt ≡ judged (tableOf (10 ∷ 0 ∷ 0 ∷ 0 ∷ 4 ∷ 0 ∷ 1 ∷ 0 ∷ 0 ∷ 0 ∷ [])))
-unfolding tableOf treesAt treeAt itemsAt recordAt headAt stepAt number
+check-missing : Not (ok tt ≡ judged (tableOf (14 ∷ 0 ∷ 0 ∷ 0 ∷ 5 ∷ 0 ∷ 1 ∷ 0 ∷ 0 ∷ 0 ∷ 3 ∷ 0 ∷ 0 ∷ 0 ∷ [])))
+unfolding tableOf shapeOf cost costed storedCost treesAt treeAt itemsAt recordAt headAt stepAt number
 check-missing e = let z : _≡_ {A = ℕ} 0 1 = cc in omega arith
+
+-- a wrong cost is let through; told before a tree that is missing; the inner one of two is told
+check-trusts : Not (ok tt ≡ judged (tableOf (costly 0 2 [])))
+unfolding tableOf shapeOf treesAt treeAt itemsAt recordAt headAt stepAt number cost costed storedCost
+check-trusts e = let z : _≡_ {A = ℕ} 0 1 = cc in omega arith
+
+check-early : Not (refused 25 0 ≡ judged (tableOf (costly 1 9 [])))
+unfolding tableOf shapeOf treesAt treeAt itemsAt recordAt headAt stepAt number
+check-early e = let z : _≡_ {A = ℕ} 25 22 = cc in omega arith
+
+check-inner : Not (refused 25 14 ≡ judged (tableOf (costly 1 2 (costly 0 2 []))))
+unfolding tableOf shapeOf treesAt treeAt itemsAt recordAt headAt stepAt number cost costed storedCost
+check-inner e = let z : _≡_ {A = ℕ} 14 0 = cc in omega arith

@@ -23,13 +23,14 @@ use Rattle.feeder.specs.declared.Out.{Out}
 use Rattle.feeder.specs.Machine.{turn, step, closing}
 use Rattle.feeder.specs.Feeding.{live, closed, freshState, feedFrom, feedOf, closeOf, replyOf}
 use Rattle.records.specs.Records.{record-of, headAt}
-use Rattle.table.specs.Trees.{runsOn, isSymbol, records}
+use Rattle.table.specs.Costs.{costed, storedCost}
+use Rattle.table.specs.Trees.{runsOn, isSymbol, records, cost}
 use Rattle.table.specs.Records.{recordAt}
-use Rattle.table.specs.Decoding.{itemsAt, stepAt, treeAt, treesAt, tableOf}
+use Rattle.table.specs.Decoding.{itemsAt, stepAt, treeAt, treesAt, tableOf, shapeOf}
 use Rattle.reader.specs.Grammar.{readItems, readTree, fileOf}
 use Rattle.reader.specs.Reading.{reading, readInto}
-use Rattle.printer.specs.Layout.{fitsIn, cost, lay, pageFrom}
-use Rattle.printer.specs.Looking.{shares, upTo, looksIn, looked, pageLooked}
+use Rattle.printer.specs.Layout.{fitsIn, lay, pageFrom}
+use Rattle.printer.specs.Looking.{looks, looked, pageLooked}
 use Rattle.printer.specs.Printing.{printing, printedInto}
 use Rattle.words.specs.Words.{eight, endAnswer, rparenAnswer, symbolAnswer, intAnswer, refusedAnswer, moreAnswer, doneAnswer, tokenWords, refusedWords, doneWords, answerWords, replyWords, fedWords, lengthWords, textWords}
 use Rattle.tulbazhik_trees.specs.Texts.{printWords}
@@ -222,27 +223,27 @@ read-changed e = let z : _≡_ {A = ℕ} 0 1 = word 0 _ _ e in omega arith
 abbrev oneSymbol : List ℕ
 oneSymbol = 7 ∷ 0 ∷ 0 ∷ 0 ∷ 1 ∷ 0 ∷ 97 ∷ []
 
--- `()`, 10 bytes as a table and 3 as a text; the fits test looks at it
+-- `()`, 14 bytes as a table and 3 as a text; the fits test looks at it
 abbrev oneList : List ℕ
-oneList = 10 ∷ 0 ∷ 0 ∷ 0 ∷ 4 ∷ 0 ∷ 0 ∷ 0 ∷ 0 ∷ 0 ∷ []
+oneList = 14 ∷ 0 ∷ 0 ∷ 0 ∷ 5 ∷ 0 ∷ 0 ∷ 0 ∷ 0 ∷ 0 ∷ 1 ∷ 0 ∷ 0 ∷ 0 ∷ []
 
 -- tulbazhik_print: 0 bytes; the bytes needed given as a length; a text changed where the room is too short; the count lost, or given with a refusal
 print-none : Not (eight doneAnswer 0 0 0 0 0 ≡ printWords (printing oneSymbol 0 2))
-unfolding printWords printing tableOf treesAt treeAt recordAt headAt stepAt number isSymbol runsOn classOf lay pageFrom
+unfolding printWords printing tableOf shapeOf cost costed storedCost treesAt treeAt recordAt headAt stepAt number isSymbol runsOn classOf lay pageFrom
 print-none e = let z : _≡_ {A = ℕ} 0 2 = word 2 _ _ e in omega arith
 
 print-needed : Not (eight doneAnswer 0 2 0 0 0 ≡ printWords (printing oneSymbol 0 1))
-unfolding printWords printing tableOf treesAt treeAt recordAt headAt stepAt number isSymbol runsOn classOf lay pageFrom
+unfolding printWords printing tableOf shapeOf cost costed storedCost treesAt treeAt recordAt headAt stepAt number isSymbol runsOn classOf lay pageFrom
 print-needed e = let z : _≡_ {A = ℕ} 8 6 = word 0 _ _ e in omega arith
 
 print-changed : Not (97 ∷ [] ≡ printedInto oneSymbol 0 (0 ∷ []))
-unfolding printedInto tableOf treesAt treeAt recordAt headAt stepAt number isSymbol runsOn classOf lay pageFrom
+unfolding printedInto tableOf shapeOf cost costed storedCost treesAt treeAt recordAt headAt stepAt number isSymbol runsOn classOf lay pageFrom
 print-changed e = let z : _≡_ {A = ℕ} 97 0 = word 0 _ _ e in omega arith
 
 print-uncounted : Not (eight doneAnswer 0 3 0 0 0 ≡ printWords (printing oneList 0 3))
-unfolding printWords printing tableOf treesAt treeAt itemsAt recordAt headAt stepAt number isSymbol runsOn classOf fitsIn cost lay pageFrom shares upTo looksIn looked pageLooked
+unfolding printWords printing tableOf shapeOf costed storedCost treesAt treeAt itemsAt recordAt headAt stepAt number isSymbol runsOn classOf fitsIn cost lay pageFrom looks looked pageLooked
 print-uncounted e = let z : _≡_ {A = ℕ} 0 1 = word 6 _ _ e in omega arith
 
 print-counted : Not (6 ∷ 3 ∷ 18 ∷ 0 ∷ 0 ∷ 0 ∷ 1 ∷ 0 ∷ [] ≡ printWords (printing oneList 0 2))
-unfolding printWords printing tableOf treesAt treeAt itemsAt recordAt headAt stepAt number isSymbol runsOn classOf fitsIn cost lay pageFrom shares upTo looksIn looked pageLooked
+unfolding printWords printing tableOf shapeOf costed storedCost treesAt treeAt itemsAt recordAt headAt stepAt number isSymbol runsOn classOf fitsIn cost lay pageFrom looks looked pageLooked
 print-counted e = let z : _≡_ {A = ℕ} 1 0 = word 6 _ _ e in omega arith

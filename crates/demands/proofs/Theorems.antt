@@ -1,6 +1,7 @@
 -- All theorems, by name. Assumes nothing.
 use Rattle.lexer.proofs.DigitPlaces as lexer-digits
 use Rattle.table.proofs.Whole as table
+use Rattle.table.proofs.Costs as table-costs
 use Rattle.table.proofs.Faults as table-faults
 use Rattle.reader.proofs.ReadGood as reader-good
 use Rattle.reader.proofs.ReadTokens as reader-tokens
@@ -41,6 +42,7 @@ theorems = record {
   fault-numbered = table-faults.fault-numbered;
   sound = table.sound;
   complete = table.complete;
+  cost-fits = table-costs.cost-fits;
   read-good = reader-good.read-good;
   read-tokens = reader-tokens.read-tokens;
   read-accepts = reader-accepts.read-accepts;

@@ -8,19 +8,20 @@ use Rattle.lexer.specs.Literals.{taken, grow, reading as digitsRead, literalEnd
 use Rattle.lexer.specs.Lexing.{skip, symbolEnd, lexIn, nextToken}
 use Rattle.lexer.specs.Streams.{tokensFrom}
 use Rattle.records.specs.Records.{record-of, headAt}
-use Rattle.table.specs.Trees.{runsOn, isSymbol, records}
+use Rattle.table.specs.Costs.{costed, storedCost}
+use Rattle.table.specs.Trees.{runsOn, isSymbol, records, cost}
 use Rattle.table.specs.Records.{recordAt}
-use Rattle.table.specs.Decoding.{itemsAt, stepAt, treeAt, treesAt, tableOf}
+use Rattle.table.specs.Decoding.{itemsAt, stepAt, treeAt, treesAt, tableOf, shapeOf}
 use Rattle.reader.specs.Grammar.{readItems, readTree, fileOf}
 use Rattle.reader.specs.Reading.{reading, readInto}
-use Rattle.printer.specs.Layout.{breakColumn, fitsIn, cost, lay, pageFrom}
-use Rattle.printer.specs.Looking.{shares, upTo, looksIn, looked, pageLooked}
-use Rattle.printer.specs.Fitting.{entryAt, fitsFrom, fitsAt}
+use Rattle.printer.specs.Layout.{breakColumn, fitsIn, lay, pageFrom}
+use Rattle.printer.specs.Looking.{looks, looked, pageLooked}
+use Rattle.printer.specs.Fitting.{fitsAt}
 use Rattle.printer.specs.Printing.{printing, printedInto}
 use Rattle.windows.specs.Machine.{putOf, nextOf}
 use Rattle.windows.specs.Filling.{run, fillOf, calls}
 use Rattle.demands.specs.Worked.{cases, Worked}
 
 pub worked : Worked
-unfolding cases tokensFrom nextToken lexIn skip symbolEnd classOf literalByte digitOf taken grow digitsRead literalEnd radixOf concluded unsignedIn val grown integerOf reading readInto fileOf readItems readTree records record-of headAt le number printing printedInto tableOf treesAt treeAt itemsAt recordAt stepAt isSymbol runsOn pageFrom lay cost breakColumn fitsIn digits isLowest integerText shares upTo looksIn looked pageLooked entryAt fitsFrom fitsAt putOf nextOf run fillOf calls
+unfolding cases tokensFrom nextToken lexIn skip symbolEnd classOf literalByte digitOf taken grow digitsRead literalEnd radixOf concluded unsignedIn val grown integerOf reading readInto fileOf readItems readTree records record-of headAt le number printing printedInto tableOf shapeOf costed storedCost treesAt treeAt itemsAt recordAt stepAt isSymbol runsOn pageFrom lay cost breakColumn fitsIn digits isLowest integerText looks looked pageLooked fitsAt putOf nextOf run fillOf calls
 worked = refl

@@ -4,7 +4,7 @@ use mathlib.Core.List.{List, [], _∷_}
 use Prim.Native.Nat.{ℕ}
 use native.Mathlib.Omega.{arith}
 use lib.ListN.{length, getD, replicate}
-use Rattle.refusals.specs.Result.{ok}
+use Rattle.refusals.specs.Result.{ok, refused}
 use Rattle.classes.specs.Classes.{classOf}
 use Rattle.wide.specs.Bytes.{le, number}
 use Rattle.lexer.specs.Tokens.{Token, token, rparen}
@@ -13,11 +13,12 @@ use Rattle.lexer.specs.Streams.{tokensFrom}
 use Rattle.feeder.specs.Machine.{closing, turn, step}
 use Rattle.feeder.specs.Feeding.{more, ready, Fed, feedFrom, feedOf, closeOf}
 use Rattle.records.specs.Records.{record-of, headAt}
-use Rattle.table.specs.Trees.{Tree, symbol, none, more as and, runsOn, isSymbol, records}
+use Rattle.table.specs.Costs.{costed, storedCost}
+use Rattle.table.specs.Trees.{Tree, symbol, none, more as and, runsOn, isSymbol, records, cost}
 use Rattle.table.specs.Records.{recordAt}
-use Rattle.table.specs.Decoding.{itemsAt, stepAt, treeAt, treesAt, tableOf}
-use Rattle.printer.specs.Layout.{breakColumn, fitsIn, cost, lay, pageFrom}
-use Rattle.printer.specs.Looking.{shares, upTo, looksIn, looked, pageLooked, nodes}
+use Rattle.table.specs.Decoding.{itemsAt, stepAt, treeAt, treesAt, tableOf, shapeOf}
+use Rattle.printer.specs.Layout.{breakColumn, fitsIn, lay, pageFrom}
+use Rattle.printer.specs.Looking.{looks, looked, pageLooked, lists}
 use Rattle.printer.specs.Printing.{printedInto}
 use Rattle.demands.specs.Driver.{driveBy}
 use Rattle.demands.specs.WrongPrograms.{WrongPrograms}
@@ -31,7 +32,7 @@ abbrev a : Tree
 a = symbol (97 ∷ [])
 
 pub wrong-programs : WrongPrograms
-unfolding driveBy feedOf feedFrom closeOf closing step turn classOf tokensFrom nextToken lexIn skip symbolEnd printedInto tableOf treesAt treeAt itemsAt recordAt headAt stepAt number isSymbol runsOn breakColumn fitsIn cost lay pageFrom records record-of le shares upTo looksIn looked pageLooked nodes
+unfolding driveBy feedOf feedFrom closeOf closing step turn classOf tokensFrom nextToken lexIn skip symbolEnd printedInto tableOf shapeOf costed storedCost treesAt treeAt itemsAt recordAt headAt stepAt number isSymbol runsOn breakColumn fitsIn cost lay pageFrom records record-of le looks looked pageLooked lists
 wrong-programs = record {
   refuses-all = λ number place e. let z : _≡_ {A = ℕ} 0 1 = cc in omega arith;
   first-piece = λ e. no-token (token rparen 1 1) (ap (λ (f : Fed). f .reply) e);
@@ -46,8 +47,9 @@ wrong-programs = record {
   one-line-text = λ f. let e : _≡_ {A = ℕ} 32 10 = ap (λ (l : List ℕ). getD l 5 0) (f (and ruleTree none) 13) in omega arith;
   -- no bytes are the text both of no tree and of one
   same-text = λ o f. let e : _≡_ {A = ℕ} 0 2 = ap length (sym (f none 0) ∙ f (and a none) 0) in omega arith;
-  -- no number is that of no tree and of a list; at width 13 the 6 records of `(rule (a b) c)` make 9; a first record that settles it is looked at
-  same-count = λ k f. let e : _≡_ {A = ℕ} 0 6 = sym (f none 0) ∙ f (and ruleTree none) 14 in omega arith;
-  counts-once = λ f. let e : _≡_ {A = ℕ} 6 9 = f (and ruleTree none) 13 in omega arith;
-  leaves-out = λ f. let e : _≡_ {A = ℕ} 0 1 = f (1 ∷ []) 0 in omega arith;
+  -- no number is that of no tree and of a list; at width 14 `(rule (a b) c)` fits, and the list in it is not tested; a list is tested; the cost of `()` is 1
+  same-count = λ k f. let e : _≡_ {A = ℕ} 0 1 = sym (f none 0) ∙ f (and ruleTree none) 14 in omega arith;
+  counts-all = λ f. let e : _≡_ {A = ℕ} 2 1 = f (and ruleTree none) 14 in omega arith;
+  counts-none = λ f. let e : _≡_ {A = ℕ} 0 1 = f (and ruleTree none) 14 in omega arith;
+  any-cost = λ f. let e : refused 25 0 ≡ ok tt = f 2 in let z : _≡_ {A = ℕ} 0 1 = cc in omega arith;
 }

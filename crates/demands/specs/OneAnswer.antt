@@ -68,6 +68,10 @@ use Rattle.table.proofs.record_at.Reads as table-record-at
 use Rattle.table.proofs.is_symbol.Reads as table-is-symbol
 use Rattle.table.proofs.step_at.Reads as table-step-at
 use Rattle.table.proofs.past_symbol.Reads as table-past-symbol
+use Rattle.table.proofs.stored_cost.Reads as table-stored-cost
+use Rattle.table.proofs.walk.earlier.Reads as table-walk-earlier
+use Rattle.table.proofs.walk.own_wrong.Reads as table-walk-own-wrong
+use Rattle.table.proofs.walk.walk_tree.Reads as table-walk-walk-tree
 use Rattle.table.proofs.past.Reads as table-past
 use Rattle.table.proofs.check.Reads as table-check
 use Rattle.reader.proofs.read.Reads as reader-read
@@ -192,6 +196,10 @@ pub record OneAnswer : Type 0 where
   pub table·is-symbol : One table-is-symbol.Post
   pub table·step-at : One table-step-at.Post
   pub table·past-symbol : One table-past-symbol.Post
+  pub table·stored-cost : One table-stored-cost.Post
+  pub table·walk·earlier : One table-walk-earlier.Post
+  pub table·walk·own-wrong : One table-walk-own-wrong.Post
+  pub table·walk·walk-tree : One table-walk-walk-tree.Post
   pub table·past : One table-past.Post
   pub table·check : One table-check.Post
   pub reader·read : Both reader-read.Post (λ κs s. now (s .1 .0))

@@ -25,6 +25,8 @@ use Rattle.table.specs.Trees.{isSymbol}
 use Rattle.table.specs.Records.{recordAt}
 use Rattle.table.specs.Decoding.{stepAt, treeAt, tableOf, judged, verdictOf}
 use Rattle.table.specs.Past.{pastSymbol, pastOf}
+use Rattle.table.specs.Costs.{storedCost}
+use Rattle.table.specs.Walking.{firstOf, ownWrong, Walks}
 use Rattle.printer.specs.Layout.{breakColumn, fitsIn}
 use Rattle.printer.specs.Fitting.{fitsAt}
 use Rattle.printer.specs.Printing.{printOf, printing as printingOf, printedInto}
@@ -87,6 +89,10 @@ use Rattle.table.proofs.record_at.Reads as table-record-at
 use Rattle.table.proofs.is_symbol.Reads as table-is-symbol
 use Rattle.table.proofs.step_at.Reads as table-step-at
 use Rattle.table.proofs.past_symbol.Reads as table-past-symbol
+use Rattle.table.proofs.stored_cost.Reads as table-stored-cost
+use Rattle.table.proofs.walk.earlier.Reads as table-walk-earlier
+use Rattle.table.proofs.walk.own_wrong.Reads as table-walk-own-wrong
+use Rattle.table.proofs.walk.walk_tree.Reads as table-walk-walk-tree
 use Rattle.table.proofs.past.Reads as table-past
 use Rattle.table.proofs.check.Reads as table-check
 use Rattle.reader.proofs.read.Reads as reader-read
@@ -165,6 +171,10 @@ pub record Promises : Type 1 where
   pub table·is-symbol : (κs : _) (a : _) (x : _) (s : _) → table-is-symbol.Post κs a x s ≡ (x ≡ isSymbol (now (a .0)))
   pub table·step-at : (κs : _) (a : _) (x : _) (s : _) → table-step-at.Post κs a x s ≡ (x ≡ stepAt (now (a .0)) (a .1 .0) (a .1 .1 .0))
   pub table·past-symbol : (κs : _) (a : _) (x : _) (s : _) → table-past-symbol.Post κs a x s ≡ (x ≡ pastSymbol (now (a .0)) (a .1 .0))
+  pub table·stored-cost : (κs : _) (a : _) (x : _) (s : _) → table-stored-cost.Post κs a x s ≡ (x ≡ storedCost (now (a .0)) (a .1 .0))
+  pub table·walk·earlier : (κs : _) (a : _) (x : _) (s : _) → table-walk-earlier.Post κs a x s ≡ (x ≡ firstOf (a .1 .1 .0) (a .0) (a .1 .0))
+  pub table·walk·own-wrong : (κs : _) (a : _) (x : _) (s : _) → table-walk-own-wrong.Post κs a x s ≡ (x ≡ ownWrong (now (a .0)) (a .1 .0) (a .1 .1 .0))
+  pub table·walk·walk-tree : (κs : _) (a : _) (x : _) (s : _) → table-walk-walk-tree.Post κs a x s ≡ Walks (now (a .0)) (a .1 .0) (treeAt (now (a .0)) (a .1 .1 .0) (a .1 .0)) x
   pub table·past : (κs : _) (a : _) (x : _) (s : _) → table-past.Post κs a x s ≡ (x ≡ pastOf (a .1 .0) (treeAt (now (a .0)) depthLimit (a .1 .0)))
   pub table·check : (κs : _) (a : _) (x : _) (s : _) → table-check.Post κs a x s ≡ (verdictOf x ≡ judged (tableOf (now (a .0))))
   pub reader·read : (κs : _) (a : _) (x : _) (s : _) → reader-read.Post κs a x s ≡ ((readOf x ≡ readingOf (now (a .0)) (length (now (a .1 .0)))) × (now (s .1 .0) ≡ readInto (now (a .0)) (now (a .1 .0))))

@@ -8,6 +8,7 @@ use Rattle.refusals.specs.Result.{ok}
 use Rattle.wide.specs.Bytes.{Bytes}
 use Rattle.lexer.specs.DigitPlaces.{DigitNamed}
 use Rattle.table.specs.Trees.{Trees, Goods, recordsOf}
+use Rattle.table.specs.Costs.{CostFits}
 use Rattle.table.specs.Decoding.{found, tableOf}
 use Rattle.table.specs.Accepted.{Accepted}
 use Rattle.table.specs.Faults.{FaultPlaced, FaultNumbered}
@@ -39,12 +40,13 @@ pub record Theorems : Type 0 where
   -- the digit that a literal is refused for is the first such one from the left; 22 and no other fault of a table is told at its length
   pub digit-named : DigitNamed
   pub fault-placed : FaultPlaced
-  -- a table is refused for its length, or with 15, 20, 21, 13, 16 or 22
+  -- a table is refused for its length, or with 15, 20, 21, 13, 16, 22 or 25
   pub fault-numbered : FaultNumbered
-  -- a table that is accepted is the records of good trees, and the records of good trees are accepted
+  -- a table that is accepted is the records of good trees, and the records of good trees are accepted; the cost that a list stores fits its 4 bytes
   pub sound : (t : List ℕ) (xs : Trees) (q : ℕ) → Bytes t → tableOf t ≡ ok (found xs q) → Accepted t xs q
   pub complete : (xs : Trees) → Goods xs depthLimit → length (recordsOf xs) ≤ tableLimit
       → tableOf (recordsOf xs) ≡ ok (found xs (length (recordsOf xs)))
+  pub cost-fits : CostFits
   -- what is read is a good table; its tokens are the source's; whatever is the text of trees within the limits is read
   pub read-good : ReadGood
   pub read-tokens : ReadTokens
@@ -52,7 +54,7 @@ pub record Theorems : Type 0 where
   -- good trees are printed, whichever integers they hold, and so is whatever was read; the only refusal is for room
   pub good-printed : GoodPrinted
   pub read-printed : ReadPrinted
-  -- the fits test looks at no more than 64 times the records of the table
+  -- the fits test looks at no more records than there are lists in the table
   pub looked-bound : LookedBound
   -- the windows of a table, whatever their lengths, joined are its text, and then the end is answered, with the number of records that the fits test looks at; what is refused is refused at the first call
   pub windows-joined : WindowsJoined

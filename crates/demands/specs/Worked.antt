@@ -72,11 +72,14 @@ case r a = record { run = r; answer = a }
 abbrev rule : List ℕ
 rule = 40 ∷ 114 ∷ 117 ∷ 108 ∷ 101 ∷ 32 ∷ 40 ∷ 97 ∷ 32 ∷ 98 ∷ 41 ∷ 32 ∷ 99 ∷ 41 ∷ []
 
+-- a list of n items that stores the cost k, and their records
+abbrev costly : ℕ → ℕ → List ℕ → List ℕ
+costly n k items = 14 ∷ 0 ∷ 0 ∷ 0 ∷ 5 ∷ 0 ∷ n ∷ 0 ∷ 0 ∷ 0 ∷ k ∷ 0 ∷ 0 ∷ 0 ∷ items
+
 -- its table
 abbrev ruleTable : List ℕ
 ruleTable =
-    10 ∷ 0 ∷ 0 ∷ 0 ∷ 4 ∷ 0 ∷ 3 ∷ 0 ∷ 0 ∷ 0 ∷ 10 ∷ 0 ∷ 0 ∷ 0 ∷ 1 ∷ 0 ∷ 114 ∷ 117 ∷ 108 ∷ 101 ∷ 10 ∷ 0 ∷ 0 ∷ 0 ∷ 4 ∷ 0 ∷ 2 ∷ 0 ∷ 0 ∷ 0 ∷ 7 ∷ 0 ∷ 0 ∷ 0 ∷ 1 ∷ 0 ∷ 97 ∷ 7 ∷ 0 ∷ 0 ∷ 0 ∷ 1 ∷ 0 ∷ 98 ∷ 7 ∷ 0 ∷ 0 ∷ 0
-    ∷ 1 ∷ 0 ∷ 99 ∷ []
+    costly 3 14 (10 ∷ 0 ∷ 0 ∷ 0 ∷ 1 ∷ 0 ∷ 114 ∷ 117 ∷ 108 ∷ 101 ∷ costly 2 5 (7 ∷ 0 ∷ 0 ∷ 0 ∷ 1 ∷ 0 ∷ 97 ∷ 7 ∷ 0 ∷ 0 ∷ 0 ∷ 1 ∷ 0 ∷ 98 ∷ 7 ∷ 0 ∷ 0 ∷ 0 ∷ 1 ∷ 0 ∷ 99 ∷ []))
 
 -- -2^127 as document 02, 6/12 writes it, and in a list; its table
 abbrev lowest : List ℕ
@@ -109,35 +112,44 @@ cases =
     ∷ case (read (40 ∷ 97 ∷ 32 ∷ 49 ∷ 50 ∷ 97 ∷ 98 ∷ 41 ∷ [])) (bytes (refused 6 5))
     ∷ case (lexed (48 ∷ 98 ∷ (replicate 99 49 ++ (50 ∷ replicate 28 49)))) (tokens (ends (refused 6 101)))
     ∷ case (lexed (45 ∷ 48 ∷ 120 ∷ replicate 33 102)) (tokens (ends (refused 7 35)))
-    -- `x @ (a)`, `x @ )`
+    -- `x @ (a)`, with its list's cost as document 02, 7/12 has it stored; `x @ )`
     ∷ case (read (120 ∷ 32 ∷ 64 ∷ 32 ∷ 40 ∷ 97 ∷ 41 ∷ []))
-    (bytes (ok (7 ∷ 0 ∷ 0 ∷ 0 ∷ 3 ∷ 0 ∷ 120 ∷ 10 ∷ 0 ∷ 0 ∷ 0 ∷ 4 ∷ 0 ∷ 1 ∷ 0 ∷ 0 ∷ 0 ∷ 7 ∷ 0 ∷ 0 ∷ 0 ∷ 1 ∷ 0 ∷ 97 ∷ [])))
+    (bytes (ok (7 ∷ 0 ∷ 0 ∷ 0 ∷ 3 ∷ 0 ∷ 120 ∷ costly 1 3 (7 ∷ 0 ∷ 0 ∷ 0 ∷ 1 ∷ 0 ∷ 97 ∷ []))))
     ∷ case (read (120 ∷ 32 ∷ 64 ∷ 32 ∷ 41 ∷ [])) (bytes (refused 12 4))
-    -- `(rule (a b) c)` at width 14 and at 13; `()` at width 0. Document 02, 3/12: at 14 the test looks at all 6 records; at 13 at all 6, of which the last settles it, and then
-    -- at the 3 of `(a b)`; at `()` alone
-    ∷ case (printed rule 14) (paged (ok (page (40 ∷ 114 ∷ 117 ∷ 108 ∷ 101 ∷ 32 ∷ 40 ∷ 97 ∷ 32 ∷ 98 ∷ 41 ∷ 32 ∷ 99 ∷ 41 ∷ 10 ∷ []) 6)))
+    -- `(rule (a b) c)` at width 14 and at 13; `()` at width 0. Document 02, 7/12: at 14 one list is tested; at 13 it does not fit, and `(a b)` is tested too; `()` is tested
+    ∷ case (printed rule 14) (paged (ok (page (40 ∷ 114 ∷ 117 ∷ 108 ∷ 101 ∷ 32 ∷ 40 ∷ 97 ∷ 32 ∷ 98 ∷ 41 ∷ 32 ∷ 99 ∷ 41 ∷ 10 ∷ []) 1)))
     ∷ case (printed rule 13)
-    (paged (ok (page (40 ∷ 114 ∷ 117 ∷ 108 ∷ 101 ∷ 10 ∷ 32 ∷ 32 ∷ 32 ∷ 32 ∷ 40 ∷ 97 ∷ 32 ∷ 98 ∷ 41 ∷ 10 ∷ 32 ∷ 32 ∷ 32 ∷ 32 ∷ 99 ∷ 10 ∷ 41 ∷ 10 ∷ []) 9)))
+    (paged (ok (page (40 ∷ 114 ∷ 117 ∷ 108 ∷ 101 ∷ 10 ∷ 32 ∷ 32 ∷ 32 ∷ 32 ∷ 40 ∷ 97 ∷ 32 ∷ 98 ∷ 41 ∷ 10 ∷ 32 ∷ 32 ∷ 32 ∷ 32 ∷ 99 ∷ 10 ∷ 41 ∷ 10 ∷ []) 2)))
     ∷ case (printed (40 ∷ 41 ∷ []) 0) (paged (ok (page (40 ∷ 41 ∷ 10 ∷ []) 1)))
-    -- document 02, 1/12: table faults. A length below 6 and an unknown kind; that kind alone; a list of length 11; a list whose item is missing; one whose item is cut short
-    ∷ case (table (5 ∷ 0 ∷ 0 ∷ 0 ∷ 5 ∷ 0 ∷ []) 0) (paged (refused 15 0))
-    ∷ case (table (6 ∷ 0 ∷ 0 ∷ 0 ∷ 5 ∷ 0 ∷ []) 0) (paged (refused 20 0))
-    ∷ case (table (11 ∷ 0 ∷ 0 ∷ 0 ∷ 4 ∷ 0 ∷ 0 ∷ 0 ∷ 0 ∷ 0 ∷ 0 ∷ []) 0) (paged (refused 21 0))
-    ∷ case (table (10 ∷ 0 ∷ 0 ∷ 0 ∷ 4 ∷ 0 ∷ 1 ∷ 0 ∷ 0 ∷ 0 ∷ []) 0) (paged (refused 22 10))
-    ∷ case (table (10 ∷ 0 ∷ 0 ∷ 0 ∷ 4 ∷ 0 ∷ 1 ∷ 0 ∷ 0 ∷ 0 ∷ 7 ∷ []) 0) (paged (refused 15 10))
-    -- document 02, 2/12: `(rule (a b) c)` at width 13 through windows of 5, 0, 9, 9, 3 and 0 bytes, then 2; through one of 24; no trees; a table that is refused, and refused again
+    -- document 02, 1/12: table faults. A length below 6 and an unknown kind; that kind alone; a list of length 15; a list whose item is missing; one whose item is cut short
+    ∷ case (table (5 ∷ 0 ∷ 0 ∷ 0 ∷ 6 ∷ 0 ∷ []) 0) (paged (refused 15 0))
+    ∷ case (table (6 ∷ 0 ∷ 0 ∷ 0 ∷ 6 ∷ 0 ∷ []) 0) (paged (refused 20 0))
+    ∷ case (table (15 ∷ 0 ∷ 0 ∷ 0 ∷ 5 ∷ 0 ∷ replicate 9 0) 0) (paged (refused 21 0))
+    ∷ case (table (costly 1 3 []) 0) (paged (refused 22 14))
+    ∷ case (table (costly 1 3 (7 ∷ [])) 0) (paged (refused 15 14))
+    -- document 02, 7/12: kind 4 as it was; kind 5 of that length; `()` with a wrong cost; `(())` with two, and with the inner one; a wrong cost before a symbol of no bytes, and before
+    -- a tree that is missing
+    ∷ case (table (10 ∷ 0 ∷ 0 ∷ 0 ∷ 4 ∷ 0 ∷ replicate 4 0) 0) (paged (refused 20 0))
+    ∷ case (table (10 ∷ 0 ∷ 0 ∷ 0 ∷ 5 ∷ 0 ∷ replicate 4 0) 0) (paged (refused 21 0))
+    ∷ case (table (costly 0 2 []) 0) (paged (refused 25 0))
+    ∷ case (table (costly 1 2 (costly 0 2 [])) 0) (paged (refused 25 0))
+    ∷ case (table (costly 1 3 (costly 0 2 [])) 0) (paged (refused 25 14))
+    ∷ case (table (costly 0 2 (6 ∷ 0 ∷ 0 ∷ 0 ∷ 1 ∷ 0 ∷ [])) 0) (paged (refused 16 14))
+    ∷ case (table (costly 1 9 []) 0) (paged (refused 22 14))
+    -- document 02, 2/12: `(rule (a b) c)` at width 13 through windows of 5, 0, 9, 9, 3 and 0 bytes, then 2; through one of 24; no trees; tables that are refused, and refused again
     ∷ case (windowed ruleTable 13 (5 ∷ 0 ∷ 9 ∷ 9 ∷ 3 ∷ 0 ∷ 2 ∷ []))
-    (parts (ok (part 5) ∷ ok (part 0) ∷ ok (part 9) ∷ ok (part 9) ∷ ok (part 1) ∷ ok (end 9) ∷ ok (end 9) ∷ [])
+    (parts (ok (part 5) ∷ ok (part 0) ∷ ok (part 9) ∷ ok (part 9) ∷ ok (part 1) ∷ ok (end 2) ∷ ok (end 2) ∷ [])
     (40 ∷ 114 ∷ 117 ∷ 108 ∷ 101 ∷ 10 ∷ 32 ∷ 32 ∷ 32 ∷ 32 ∷ 40 ∷ 97 ∷ 32 ∷ 98 ∷ 41 ∷ 10 ∷ 32 ∷ 32 ∷ 32 ∷ 32 ∷ 99 ∷ 10 ∷ 41 ∷ 10 ∷ []))
     ∷ case (windowed ruleTable 14 (24 ∷ []))
     (parts (ok (part 15) ∷ []) (40 ∷ 114 ∷ 117 ∷ 108 ∷ 101 ∷ 32 ∷ 40 ∷ 97 ∷ 32 ∷ 98 ∷ 41 ∷ 32 ∷ 99 ∷ 41 ∷ 10 ∷ []))
     ∷ case (windowed [] 0 (0 ∷ 1 ∷ [])) (parts (ok (end 0) ∷ ok (end 0) ∷ []) [])
-    ∷ case (windowed (6 ∷ 0 ∷ 0 ∷ 0 ∷ 5 ∷ 0 ∷ []) 0 (0 ∷ 1 ∷ [])) (parts (refused 20 0 ∷ refused 20 0 ∷ []) [])
+    ∷ case (windowed (6 ∷ 0 ∷ 0 ∷ 0 ∷ 6 ∷ 0 ∷ []) 0 (0 ∷ 1 ∷ [])) (parts (refused 20 0 ∷ refused 20 0 ∷ []) [])
+    ∷ case (windowed (costly 0 2 []) 0 (0 ∷ 1 ∷ [])) (parts (refused 25 0 ∷ refused 25 0 ∷ []) [])
     -- document 02, 6/12: -2^127 prints as `0x8` and 31 zeros at any width; its cost is 34, so that in a list it fits in 36 and not in 35; through windows of 3, 40 and 1 bytes
     ∷ case (read lowest) (bytes (ok lowestTable))
     ∷ case (printed lowest 0) (paged (ok (page (lowest ++ (10 ∷ [])) 0)))
-    ∷ case (printed listed 36) (paged (ok (page (listed ++ (10 ∷ [])) 2)))
-    ∷ case (printed listed 35) (paged (ok (page (40 ∷ (lowest ++ (10 ∷ 41 ∷ 10 ∷ []))) 2)))
+    ∷ case (printed listed 36) (paged (ok (page (listed ++ (10 ∷ [])) 1)))
+    ∷ case (printed listed 35) (paged (ok (page (40 ∷ (lowest ++ (10 ∷ 41 ∷ 10 ∷ []))) 1)))
     ∷ case (windowed lowestTable 0 (3 ∷ 40 ∷ 1 ∷ [])) (parts (ok (part 3) ∷ ok (part 32) ∷ ok (end 0) ∷ []) (lowest ++ (10 ∷ [])))
     ∷ []
 

@@ -1,9 +1,9 @@
 -- Programs that document 01 wants the promises to catch ('How little a promise may leave open'), and what each of them breaks: THEOREM wrong-programs.
 use mathlib.Core.Path.{_≡_}
-use mathlib.Core.List.{List, [], _∷_}
+use mathlib.Core.List.{List, [], _∷_, _++_}
 use mathlib.Core.Bool.{cond}
 use Prim.Native.Nat.{ℕ, _+_, _-_, _^_}
-use lib.Dec.{ltb, eqb}
+use lib.Dec.{eqb}
 use lib.ListN.{length}
 use Rattle.refusals.specs.Result.{ok, refused}
 use Rattle.lists.specs.Over.{over}
@@ -12,9 +12,13 @@ use Rattle.lexer.specs.Lexing.{nextToken}
 use Rattle.lexer.specs.Streams.{tokensOf}
 use Rattle.feeder.specs.declared.State.{State}
 use Rattle.feeder.specs.Feeding.{more, Fed, fed, freshState, feedOf, closeOf}
+use Rattle.wide.specs.Bytes.{le}
+use Rattle.records.specs.Records.{record-of}
+use Rattle.table.specs.Kinds.{listKind}
 use Rattle.table.specs.Trees.{Trees}
+use Rattle.table.specs.Decoding.{tableOf, judged}
 use Rattle.printer.specs.Layout.{page}
-use Rattle.printer.specs.Looking.{upTo, pageLooked, nodesOf}
+use Rattle.printer.specs.Looking.{pageLooked, listsOf}
 use Rattle.printer.specs.Printing.{printedInto}
 use Rattle.demands.specs.Driver.{driveBy}
 
@@ -50,10 +54,9 @@ sameBytes o t w b = over o b
 abbrev pub untouched : Printer
 untouched t w b = b
 
--- a fits test that leaves the record out that settles "no"
-abbrev pub unsettled : List ℕ → ℕ → ℕ
-unsettled [] rest = 0
-unsettled (k ∷ ks) rest = cond (ltb rest k) 0 (unsettled ks (rest - k) + 1)
+-- the record of `()` that stores the cost n
+abbrev pub emptyList : ℕ → List ℕ
+emptyList n = record-of listKind (le 4 0 ++ le 4 n)
 
 pub record WrongPrograms : Type 0 where
   -- `a` is a symbol
@@ -71,7 +74,9 @@ pub record WrongPrograms : Type 0 where
   -- as texts of trees
   pub one-line-text : ((xs : Trees) (w : ℕ) → page xs widest ≡ page xs w) → ⊥
   pub same-text : (o : List ℕ) → ((xs : Trees) (w : ℕ) → o ≡ page xs w) → ⊥
-  -- as the number of records that is reported (document 02, 3/12): always the same; each record once; without the one that settles
+  -- as the number of records that is reported (document 02, 7/12): always the same; each list once, though none is tested inside one that fits; none
   pub same-count : (k : ℕ) → ((xs : Trees) (w : ℕ) → k ≡ pageLooked xs w) → ⊥
-  pub counts-once : ((xs : Trees) (w : ℕ) → nodesOf xs ≡ pageLooked xs w) → ⊥
-  pub leaves-out : ((ks : List ℕ) (rest : ℕ) → unsettled ks rest ≡ upTo ks rest) → ⊥
+  pub counts-all : ((xs : Trees) (w : ℕ) → listsOf xs ≡ pageLooked xs w) → ⊥
+  pub counts-none : ((xs : Trees) (w : ℕ) → 0 ≡ pageLooked xs w) → ⊥
+  -- as what is told of a table whose list stores any cost (document 02, 7/12): that it is good
+  pub any-cost : ((n : ℕ) → judged (tableOf (emptyList n)) ≡ ok tt) → ⊥

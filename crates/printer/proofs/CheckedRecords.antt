@@ -4,13 +4,11 @@ use mathlib.Core.Bool.{Bool, true, false, cond}
 use mathlib.Core.List.{List}
 use Prim.Native.Nat.{ℕ, _+_, _-_, _^_, _≤_, _<_}
 use native.Mathlib.Omega.{arith}
-use lib.IntN.{ℤ}
 use lib.ListN.{length}
 use lib.Dec.{ltb}
-use borrow.Author.Tests.{le-leb}
 use Rattle.refusals.specs.Numbers.{tooDeep, badSymbol}
 use Rattle.refusals.specs.Result.{Result, ok, refused}
-use Rattle.wide.specs.Bytes.{Bytes, numberIn, integerAt, wideIn}
+use Rattle.wide.specs.Bytes.{Bytes, numberIn, integerAt}
 use Rattle.table.specs.Trees.{Tree, Trees, symbol, integer, binding, list, isSymbol}
 use Rattle.table.specs.declared.Record.{Record}
 use Rattle.table.specs.declared.Record.the-variants.{Symbol, Integer, Binding, List as ListOf, Bad}
@@ -28,10 +26,6 @@ use Rattle.printer.specs.PrivateTrees.{Right, Sound, treeOf, treesOf, ne
 -- the count of a list fits 4 bytes, in a table of bytes
 pub list-small : (t : List ℕ) (at n : ℕ) (x : Record) → Bytes t → x ≡ recordAt t at → x ≡ ListOf n → n < 2 ^ 32
 list-small t at n x hb e e′ = let h = read-in t at x (ListOf n) e e′ in omega (arith, part-lt t (at + headLen) 4 hb (omega arith), h .0)
-
--- the integer that was read where the record has its 16 bytes
-pub integer-value : (t : List ℕ) (at : ℕ) (z : ℤ) → integerLen ≤ length t - at → z ≡ wideIn t (at + headLen) → z ≡ integerAt t (at + headLen)
-integer-value t at z h e = e ∙ rw (le-leb (at + headLen + 16) (length t) (omega arith)) refl
 
 -- a record that is found has no fault
 abbrev plain : Record → Step

@@ -9,14 +9,16 @@ use lib.ListN.{length, length-append, length-replicate}
 use lib.Dec.{lit≤}
 use Rattle.refusals.specs.Numbers.{depthLimit}
 use Rattle.refusals.specs.Result.{ok}
-use Rattle.wide.specs.Bytes.{Bytes, le, wideBytes}
+use Rattle.wide.specs.Bytes.{Bytes, wideBytes}
 use Rattle.wide.proofs.Numbers.{wide-length}
 use Rattle.wide.proofs.Decimals.{integer-top}
 use Rattle.records.specs.Records.{record-of}
 use Rattle.records.proofs.Heads.{length-record}
-use Rattle.table.specs.Kinds.{symbolKind, integerKind, bindingKind, listKind}
-use Rattle.table.specs.Trees.{Tree, Trees, symbol, integer, binding, list, none, more, count, records, recordsOf, Good, Goods}
+use Rattle.table.specs.Kinds.{symbolKind, integerKind, bindingKind}
+use Rattle.table.specs.Trees.{Tree, Trees, symbol, integer, binding, list, none, more, records, recordsOf, Good, Goods}
 use Rattle.table.specs.Decoding.{found, treeAt}
+use Rattle.table.proofs.Costs.{list-records}
+use Rattle.table.proofs.Spans.{tree-span}
 use Rattle.table.proofs.Decoded.{Holds, tree-holds}
 use Rattle.printer.specs.Layout.{Wrapping, Wrap, SingleLine, bytes, column, breakColumn, named, nl, wrapped, gap, inner, back, lay, items}
 use Rattle.printer.specs.PrivateTrees.{Right, treeOf, nextOf}
@@ -70,7 +72,7 @@ mutual
       (omega (arith, named-size n, lay-len x (d - 1) m w i k (g .3) (omega (arith, g .0))))
   lay-len (list xs) d m w i c g h =
       let s : Wrapping = wrapped m w c (list xs) in
-      rw (length-append (record-of listKind (le 4 (count xs))) (recordsOf xs), length-record listKind (le 4 (count xs)))
+      rw (list-records xs)
       (omega (arith, items-len xs (d - 1) true s w i (c + 1) (g .2) (omega (arith, g .0))))
 
   items-len : (xs : Trees) (d : ℕ) (first : Bool) (m : Wrapping) (w i c : ℕ) → Goods xs d → i + 1 + d ≤ depthLimit → length (bytes (items xs first m w i c)) ≤ 128 * length (recordsOf xs) + 258
@@ -87,8 +89,8 @@ pub found-len : (t : List ℕ) (d p q : ℕ) (x : Tree) (m : Wrapping) (w i c : 
     → length (bytes (lay x m w i c)) + 300 ≤ 128 * (q - p)
 found-len t d p q x m w i c hb hp h e =
     let k = subst (Holds t d p) e (tree-holds t hb d p hp) in
-    let z : q - p ≡ length (records x) = omega (arith, k .1) in
-    rw z (lay-len x d m w i c (k .2) h)
+    let z : q - p ≡ length (records x) = omega (arith, tree-span t d p q x hp e) in
+    rw z (lay-len x d m w i c (k .1) h)
 
 pub line-len : (t : List ℕ) (d p q : ℕ) (x : Tree) → Bytes t → p ≤ length t → d ≤ depthLimit → treeAt t d p ≡ ok (found x q) → length (line x) + 300 ≤ 128 * (q - p)
 line-len t d p q x hb hp h e = rw (sym (line-is x 0 0 0)) (found-len t d p q x SingleLine 0 0 0 hb hp (omega arith) e)

@@ -1,7 +1,6 @@
 pub mod CheckedRecords
 pub mod ShortRooms
-pub mod FitEntries
-pub mod FitWalk
+pub mod Fits
 pub mod LookedBound
 pub mod ListTexts
 pub mod LayoutBounds

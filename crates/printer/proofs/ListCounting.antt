@@ -1,5 +1,5 @@
 -- The records that the fits test looks at for a list: none inside one that fits; for a wrapped one its own test, and what its items' tests look at, one after the other. Assumes nothing.
-use mathlib.Core.Path.{_≡_, refl, ap, sym, subst, _∙_}
+use mathlib.Core.Path.{_≡_, refl, ap, sym, subst, subst⁻¹, _∙_}
 use mathlib.Core.Bool.{Bool, true, false}
 use mathlib.Core.List.{List}
 use Prim.Native.Nat.{ℕ, _+_, _-_, _≤_, _<_}
@@ -10,14 +10,17 @@ use lib.IntN.{ℤ}
 use borrow.Author.Tests.{ne-eqb}
 use Rattle.refusals.specs.Result.{Result, ok}
 use Rattle.table.specs.Kinds.{listLen}
-use Rattle.table.specs.Trees.{Tree, Trees, symbol, integer, binding, list, none, more}
+use Rattle.table.specs.Trees.{Tree, Trees, symbol, integer, binding, list, none, more, records}
+use Rattle.table.specs.Costs.{costed, costedAll}
 use Rattle.table.specs.Decoding.{Found, found, itemsAt, treeAt}
+use Rattle.table.proofs.Costs.{both-right}
+use Rattle.table.proofs.Spans.{tree-span}
 use Rattle.table.proofs.Steps.{Gone, gone-begin, gone-item, gone-end}
 use Rattle.printer.specs.Layout.{Wrap, SingleLine, column, named, gap, inner, fits, lay}
 use Rattle.printer.specs.Looking.{looks, looked, lookedOf}
 use Rattle.printer.specs.PrivateTrees.{Right, treeOf, treesOf, nextOf}
 use Rattle.printer.specs.PrivateWriting.{seen}
-use Rattle.printer.proofs.CheckedRecords.{Made, right-is, items-left}
+use Rattle.printer.proofs.CheckedRecords.{Made, right-is, found-end, items-left}
 
 -- ---- on a single line nothing is tested
 
@@ -51,11 +54,11 @@ seen-binding : (n : List ℕ) (x : Tree) (w i c k : ℕ) → k ≡ length (named
 unfolding looked
 seen-binding n x w i c k e = rw e refl
 
-seen-fits : (xs : Trees) (w i c : ℕ) → fits w c (list xs) ≡ true → seen w i c (list xs) ≡ looks w c (list xs)
+seen-fits : (xs : Trees) (w i c : ℕ) → fits w c (list xs) ≡ true → seen w i c (list xs) ≡ looks w c
 unfolding looked
 seen-fits xs w i c e = rw e (omega (arith, singles-none xs true w i (c + 1)))
 
-seen-list : (xs : Trees) (w i c : ℕ) → fits w c (list xs) ≡ false → seen w i c (list xs) ≡ looks w c (list xs) + lookedOf xs true Wrap w i (c + 1)
+seen-list : (xs : Trees) (w i c : ℕ) → fits w c (list xs) ≡ false → seen w i c (list xs) ≡ looks w c + lookedOf xs true Wrap w i (c + 1)
 unfolding looked
 seen-list xs w i c e = rw e refl
 
@@ -86,20 +89,17 @@ pub binding-seen : (nm : List ℕ) (d : ℕ) (y z : Result (Found Tree)) (w i c 
     → x ≡ seen w i c (treeOf y)
 binding-seen nm d y z w i c k x h e f = f ∙ sym (ap (λ (v : Result (Found Tree)). seen w i c (treeOf v)) (h .is) ∙ seen-binding nm (treeOf z) w i c k e)
 
--- ---- a list that was tested: its own records are counted
+-- ---- a list that was tested: its own record is counted
 
-module _ (d : ℕ) (y : Result (Found Tree)) (z : Result (Found Trees)) (w i c k : ℕ) (h : Made d list treesOf y z) (e : k ≡ looks w c (treeOf y)) where
-  own : k ≡ looks w c (list (treesOf z))
-  own = subst (λ (x : Tree). k ≡ looks w c x) (ap treeOf (h .is)) e
-
+module _ (d : ℕ) (y : Result (Found Tree)) (z : Result (Found Trees)) (w i c k : ℕ) (h : Made d list treesOf y z) (e : k ≡ looks w c) where
   pub fitting-seen : fits w c (treeOf y) ≡ true → k ≡ seen w i c (treeOf y)
   fitting-seen f =
-      own ∙ sym (seen-fits (treesOf z) w i c (subst (λ (x : Tree). fits w c x ≡ true) (ap treeOf (h .is)) f)) ∙ sym (ap (λ (v : Result (Found Tree)). seen w i c (treeOf v)) (h .is))
+      e ∙ sym (seen-fits (treesOf z) w i c (subst (λ (x : Tree). fits w c x ≡ true) (ap treeOf (h .is)) f)) ∙ sym (ap (λ (v : Result (Found Tree)). seen w i c (treeOf v)) (h .is))
 
   pub wrapped-seen : fits w c (treeOf y) ≡ false → seen w i c (treeOf y) ≡ k + lookedOf (treesOf z) true Wrap w i (c + 1)
   wrapped-seen f =
       ap (λ (v : Result (Found Tree)). seen w i c (treeOf v)) (h .is) ∙ seen-list (treesOf z) w i c (subst (λ (x : Tree). fits w c x ≡ false) (ap treeOf (h .is)) f)
-      ∙ ap (λ (n : ℕ). n + lookedOf (treesOf z) true Wrap w i (c + 1)) (sym own)
+      ∙ ap (λ (n : ℕ). n + lookedOf (treesOf z) true Wrap w i (c + 1)) (sym e)
 
 -- ---- the items of a wrapped list: k records were looked at, j of them by its own test, and the items from the i-th on are left
 
@@ -111,11 +111,23 @@ module _ (t : List ℕ) (at d n w ind c : ℕ) where
   pub record Counting (j k p i : ℕ) : Type 0 where
     gone : Gone (treeAt t (d - 1)) n (at + listLen) i p
     count : (ys : Trees) → j + lookedOf (gone .pre ys) true Wrap w ind c ≡ k + lookedOf ys (eqb i 0) Wrap w ind c
+    costs : (ys : Trees) → costedAll t (gone .pre ys) (at + listLen) ≡ ok tt → costedAll t ys p ≡ ok tt
     right : Right (all t at d n)
+    right-costs : costedAll t (treesOf (all t at d n)) (at + listLen) ≡ ok tt
+    within : p ≤ length t
     few : j + lookedOf (treesOf (all t at d n)) true Wrap w ind c ≤ 4294967296
 
-  pub counting-begin : (j : ℕ) → Right (all t at d n) → j + lookedOf (treesOf (all t at d n)) true Wrap w ind c ≤ 4294967296 → Counting j j (at + listLen) 0
-  counting-begin j r l = record { gone = gone-begin (treeAt t (d - 1)) n (at + listLen); count = λ ys. refl; right = r; few = l }
+  pub counting-begin : (j : ℕ) → Right (all t at d n) → costedAll t (treesOf (all t at d n)) (at + listLen) ≡ ok tt → at + listLen ≤ length t
+      → j + lookedOf (treesOf (all t at d n)) true Wrap w ind c ≤ 4294967296 → Counting j j (at + listLen) 0
+  counting-begin j r k h l = record {
+    gone = gone-begin (treeAt t (d - 1)) n (at + listLen);
+    count = λ ys. refl;
+    costs = λ ys e. e;
+    right = r;
+    right-costs = k;
+    within = h;
+    few = l;
+  }
 
 module _ {t : List ℕ} {at d n w ind c j k p i : ℕ} (h : Counting t at d n w ind c j k p i) where
   -- what is counted is no more than the whole
@@ -124,6 +136,24 @@ module _ {t : List ℕ} {at d n w ind c j k p i : ℕ} (h : Counting t at d n w 
       let l : k ≤ j + lookedOf (treesOf (all t at d n)) true Wrap w ind c =
       items-left (h .gone) (h .right) (λ (xs : Trees). k ≤ j + lookedOf xs true Wrap w ind c) (λ ys. omega (arith, h .count ys)) in
       omega (arith, l, h .few)
+
+  -- the item at p, before those after it
+  module _ (l : i < n) (r : Right (treeAt t (d - 1) p)) where
+    abbrev next : Gone (treeAt t (d - 1)) n (at + listLen) (i + 1) (nextOf (treeAt t (d - 1) p))
+    next = gone-item (treeAt t (d - 1)) n (at + listLen) i p (h .gone) _ (treeOf (treeAt t (d - 1) p)) l (right-is (treeAt t (d - 1) p) r)
+
+    both : (ys : Trees) → costedAll t (h .gone .pre (more (treeOf (treeAt t (d - 1) p)) ys)) (at + listLen) ≡ ok tt
+        → (costed t (treeOf (treeAt t (d - 1) p)) p ≡ ok tt) × (costedAll t ys (nextOf (treeAt t (d - 1) p)) ≡ ok tt)
+    unfolding costed
+    both ys e =
+        let y : Tree = treeOf (treeAt t (d - 1) p) in
+        let b = both-right (costed t y p) (λ _. costedAll t ys (p + length (records y))) (h .costs (more y ys) e) in
+        (b .0, subst⁻¹ (λ (q : ℕ). costedAll t ys q ≡ ok tt) (tree-span t (d - 1) p _ y (h .within) (right-is (treeAt t (d - 1) p) r) .0) (b .1))
+
+    -- its costs are right
+    pub counting-cost : costed t (treeOf (treeAt t (d - 1) p)) p ≡ ok tt
+    counting-cost =
+        items-left next (h .right) (λ (xs : Trees). costedAll t xs (at + listLen) ≡ ok tt → costed t (treeOf (treeAt t (d - 1) p)) p ≡ ok tt) (λ ys e. both ys e .0) (h .right-costs)
 
   -- one item more, at the indent and the column that it has
   module _ (l : i < n) (u v : ℕ) (eu : u ≡ inner (eqb i 0) Wrap ind) (ev : v ≡ column (gap (eqb i 0) Wrap ind c)) (r : Right (treeAt t (d - 1) p)) (q x z : ℕ)
@@ -136,13 +166,16 @@ module _ {t : List ℕ} {at d n w ind c j k p i : ℕ} (h : Counting t at d n w 
         ap (λ (a : ℕ). seen w a (column (gap (eqb i 0) Wrap ind c)) y) (sym eu) ∙ ap (λ (b : ℕ). seen w u b y) (sym ev) ∙ sym ex in
         rw (eq, ez)
         record {
-          gone = gone-item (treeAt t (d - 1)) n (at + listLen) i p (h .gone) _ y l (right-is (treeAt t (d - 1) p) r);
+          gone = next l r;
           count =
               λ ys.
               h .count (more y ys)
               ∙ ap (λ (b : ℕ). k + b) (more-seen y ys (eqb i 0) w ind c ∙ ap (λ (b : ℕ). b + lookedOf ys false Wrap w ind c) es ∙ ap (λ (b : Bool). x + lookedOf ys b Wrap w ind c) (sym later))
               ∙ omega arith;
+          costs = λ ys e. both l r ys e .1;
           right = h .right;
+          right-costs = h .right-costs;
+          within = found-end t (d - 1) p (h .within) r .1;
           few = h .few;
         }
 

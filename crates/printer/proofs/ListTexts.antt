@@ -8,7 +8,8 @@ use native.Mathlib.Nat.{add-mul}
 use lib.IntN.{ℤ}
 use lib.ListN.{length, length-append}
 use Rattle.wide.specs.Text.{integerText}
-use Rattle.table.specs.Trees.{Tree, Trees, symbol, integer, binding, list, none, more, count}
+use Rattle.table.specs.Trees.{Tree, Trees, symbol, integer, binding, list, none, more, count, cost, costs}
+use Rattle.table.specs.Walking.{empties, emptiesOf}
 use Rattle.printer.specs.Layout.{Wrap, SingleLine, bytes, column, named, nl, gap, inner, fits, lay, items}
 use Rattle.printer.specs.PrivateWriting.{line, lines, closing, laid}
 
@@ -80,8 +81,23 @@ pub line-binding : (n : List ℕ) (x : Tree) → line (binding n x) ≡ named n 
 unfolding line
 line-binding n x = refl
 
-pub line-size : (xs : Trees) → 0 < count xs → length (line (list xs)) ≡ count xs + 1 + sizes flatly xs true
-line-size xs h = ap length (line-list xs) ∙ omega (arith, rest-size flatly xs refl h)
+-- a tree on a single line takes what it costs, and a byte more for each empty list
+mutual
+  unfolding line cost empties
+
+  pub line-size : (x : Tree) → length (line x) ≡ cost x + empties x
+  line-size (symbol n) = omega arith
+  line-size (integer z) = omega arith
+  line-size (binding n x) = omega (arith, length-append (named n) (line x), length-append n (32 ∷ 64 ∷ 32 ∷ []), line-size x)
+  line-size (list xs) = first-size xs
+
+  first-size : (xs : Trees) → length (line (list xs)) ≡ cost (list xs) + empties (list xs)
+  first-size none = refl
+  first-size (more x xs) = omega (arith, length-append (line x) (lines xs false), line-size x, lines-size xs)
+
+  lines-size : (xs : Trees) → length (lines xs false) ≡ count xs + 1 + costs xs + emptiesOf xs
+  lines-size none = refl
+  lines-size (more x xs) = omega (arith, length-append (line x) (lines xs false), line-size x, lines-size xs)
 
 mutual
   unfolding lay line

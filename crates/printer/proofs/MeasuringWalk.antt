@@ -1,275 +1,342 @@
--- The walk that checks a table and measures it: a record, the items of a list one by one, and trees up to the table's end.
--- Assumes that the table's elements are bytes.
+-- The walk that checks a table and measures it: a record, the items of a wrapped list one by one, and trees up to the table's end.
+-- Assumes nothing.
 use mathlib.Core.Path.{_≡_, refl, ap, sym, subst, subst⁻¹, _∙_}
-use mathlib.Core.Bool.{Bool, true, false, cond}
+use mathlib.Core.Bool.{Bool, true, false, cond, _&&_, _||_}
 use mathlib.Core.List.{List, [], _∷_, _++_}
-use Prim.Native.Nat.{ℕ, _+_, _*_, _-_, _≤_, _<_}
+use Prim.Native.Nat.{ℕ, zero, suc, _+_, _*_, _-_, _≤_, _<_}
 use native.Mathlib.Omega.{arith}
 use native.Mathlib.Nat.{mul-le-mul-left}
 use lib.ListN.{length, length-append}
 use lib.IntN.{ℤ}
 use lib.Dec.{ltb, eqb}
-use borrow.Author.Tests.{lt-ltb, le-ltb, ne-eqb}
-use Rattle.refusals.specs.Numbers.{tableLimit, depthLimit, tooLong}
+use borrow.Author.Tests.{lt-ltb, le-ltb, eq-eqb, ne-eqb, eqb-true}
+use Rattle.lists.proofs.Choice.{and-left, and-right}
+use Rattle.refusals.specs.Numbers.{tableLimit, depthLimit, wrongCost}
 use Rattle.refusals.specs.Result.{Result, ok, refused}
-use Rattle.wide.specs.Bytes.{Bytes, wideIn}
+use Rattle.wide.specs.Bytes.{numberIn, wideIn, integerAt}
 use Rattle.wide.specs.Text.{integerText}
-use Rattle.table.specs.Trees.{Tree, Trees, symbol, list, none, more, count}
-use Rattle.records.specs.Records.{headLen, payload}
-use Rattle.records.proofs.Heads.{part-lt, payload-size}
-use Rattle.table.specs.Kinds.{integerLen, listLen}
+use Rattle.wide.proofs.Decimals.{integer-top}
+use Rattle.records.specs.Records.{headLen, kindAt, payload}
+use Rattle.records.proofs.Heads.{within-is}
+use Rattle.table.specs.Kinds.{symbolKind, integerKind, bindingKind, listKind, integerLen, listLen}
+use Rattle.table.specs.Trees.{Tree, Trees, list, none, more, count, cost, records}
+use Rattle.table.specs.Costs.{storedCost, costed, costedAll}
 use Rattle.table.specs.Decoding.{Found, found, andThen, itemsAt, stepAt, ofStep, treeAt, tableOf}
 use Rattle.table.specs.declared.Step.{Step}
 use Rattle.table.specs.declared.Step.the-variants as step
 use Rattle.table.specs.Past.{pastSymbol}
-use Rattle.table.proofs.Steps.{step-tree, step-in, symbol-there, found-in, Gone, gone-begin, gone-item, gone-stop, gone-end}
-use Rattle.table.proofs.Steps.{Read, too-long, read-begin, read-tree, read-stop, read-end}
-use Rattle.printer.specs.Layout.{Wrap, SingleLine, bytes, column, named, nl, gap, inner, fitsIn, lay, items, cost, costs, pageFrom, page}
+use Rattle.table.specs.Walking.{wrongIn, firstOf, ownWrong, Walks}
+use Rattle.table.specs.declared.walk.Walked.{Walked}
+use Rattle.table.proofs.Costs.{list-records, cost-le, empties-le, both-right, list-right, first-none}
+use Rattle.table.proofs.Reading.{StepIn}
+use Rattle.table.proofs.Spans.{tree-span}
+use Rattle.table.proofs.Steps.{step-tree, step-in, gone-stop, read-stop}
+use Rattle.table.proofs.Whole.{accepted-shape}
+use Rattle.table.proofs.Walks.{Got, got-name, payload-is, small, walked-tree, walked-stop, integer-value}
+use Rattle.table.proofs.Walks.{Walk, walk-begin, walk-item, is-all, all-count, all-cost, all-wrong, Checks, checks-begin, checks-tree, checks-good, checks-wrong}
+use Rattle.printer.specs.Layout.{Wrap, SingleLine, bytes, column, put, next, named, nl, gap, inner, fitsIn, fits, lay, items, pageFrom, page}
 use Rattle.printer.specs.PrivateWriting.{line, laid}
-use Rattle.printer.specs.PrivateMeasuring.{Sized, Summed}
+use Rattle.printer.specs.PrivateMeasuring.{Straight, Sized, Summed}
 use Rattle.printer.specs.declared.measure.Size.{Size}
+use Rattle.printer.specs.declared.measure.Measured.{Measured}
 use Rattle.printer.specs.declared.measure.Measured.the-variants.{Bytes as Text, Refused}
-use Rattle.printer.proofs.CheckedRecords.{integer-value}
-use Rattle.printer.proofs.ListTexts.{sizes, flatly, broken, line-binding, line-size, laid-binding, laid-fits, laid-size}
-use Rattle.printer.proofs.LayoutBounds.{named-size, nl-len-le, inner-le, found-len, line-len}
+use Rattle.printer.proofs.ListTexts.{sizes, broken, line-size, laid-binding, laid-fits, laid-size}
+use Rattle.printer.proofs.LayoutBounds.{named-size, nl-len-le}
 
 -- ---- what stands at a place, where it was measured as a tree
 
-pub record Got (t : List ℕ) (d p w i c q cost′ empty len : ℕ) : Type 0 where
-  pub tree : Tree
-  pub is : treeAt t d p ≡ ok (found tree q)
-  pub costs-it : cost′ ≡ cost tree
-  pub lines-it : cost′ + empty ≡ length (line tree)
-  pub lays-it : len ≡ length (laid w i c tree)
+pub record Laid (t : List ℕ) (d p w i c q k a len : ℕ) : Type 0 where
+  pub got : Got t d p q k a
+  pub lays : costed t (got .tree) p ≡ ok tt → len ≡ length (laid w i c (got .tree))
+  pub bound : len + 300 ≤ 128 * (q - p)
 
-pub got-tree : (t : List ℕ) (d p w i c : ℕ) (m : Size) → Sized (treeAt t d p) w i c m → m .number ≤ 0
-    → Got t d p w i c (m .place) (m .cost) (m .empty) (m .len)
-got-tree t d p w i c m s h = by (treeAt t d p) refl s
+pub laid-tree : (t : List ℕ) (d p w i c : ℕ) (m : Size) → Sized t p (treeAt t d p) w i c m → m .number ≤ 0
+    → Laid t d p w i c (m .place) (m .cost) (m .wrong) (m .len)
+laid-tree t d p w i c m s h = by (treeAt t d p) refl s
   where
-    by : (y : Result (Found Tree)) → treeAt t d p ≡ y → Sized y w i c m → Got t d p w i c (m .place) (m .cost) (m .empty) (m .len)
-    by (ok (found x q)) e s =
-        record { tree = x; is = e ∙ ap (λ (v : ℕ). ok (found x v)) (sym (s .1)); costs-it = s .2; lines-it = s .3; lays-it = s .4 }
+    by : (y : Result (Found Tree)) → treeAt t d p ≡ y → Sized t p y w i c m → Laid t d p w i c (m .place) (m .cost) (m .wrong) (m .len)
+    by (ok (found x q)) e s = record {
+      got = record { tree = x; is = e ∙ ap (λ (v : ℕ). ok (found x v)) (sym (s .0 .1)); costs-it = s .0 .2; wrong-it = s .0 .3 };
+      lays = s .1;
+      bound = rw (s .0 .1) (s .2);
+    }
     by (refused n a) e s = absurd (omega (arith, s .0, s .1))
 
-payload-is : (t : List ℕ) (at len : ℕ) → headLen ≤ len → len ≤ length t - at → length (payload t at len) ≡ len - headLen
-payload-is t at len h6 hl = omega (arith, payload-size t at len (omega arith) h6)
-
-pub got-name : (t : List ℕ) (d p w i c q : ℕ) → q ≡ pastSymbol t p → p < q → (headLen ≤ q - p) × Got t d p w i c q (q - p - headLen) 0 (q - p - headLen)
-unfolding lay cost line
-got-name t d p w i c q e l =
-    let n = symbol-there t d p q e l in
-    let s = payload-is t p (q - p) (n .0) (n .1) in
-    (n .0, record { tree = symbol (payload t p (q - p)); is = n .2; costs-it = sym s; lines-it = omega arith; lays-it = sym s })
+pub laid-name : (t : List ℕ) (d p w i c q : ℕ) → q ≡ pastSymbol t p → p < q → Laid t d p w i c q (q - p - headLen) (length t) (q - p - headLen)
+unfolding lay cost got-name
+laid-name t d p w i c q e l =
+    let g = got-name t d p q e l in
+    record { got = g .1; lays = λ _. g .1 .costs-it; bound = omega (arith, g .0) }
 
 -- what was refused there
-stop-of : (y : Result (Found Tree)) (w i c : ℕ) (m : Size) → Sized y w i c m → 0 < m .number → y ≡ refused (m .number) (m .place)
-stop-of (ok (found x q)) w i c m s l = absurd (omega (arith, s .0))
-stop-of (refused n a) w i c m s l = rw (s .0, s .2) refl
+stop-of : (t : List ℕ) (p : ℕ) (y : Result (Found Tree)) (w i c : ℕ) (m : Size) → Sized t p y w i c m → 0 < m .number → y ≡ refused (m .number) (m .place)
+stop-of t p (ok (found x q)) w i c m s l = absurd (omega (arith, s .0 .0))
+stop-of t p (refused n a) w i c m s l = rw (s .0, s .2) refl
 
--- its numbers are bounded by its records
-pub record Small (t : List ℕ) (p q cost′ empty len : ℕ) : Type 0 where
-  pub past : p < q
-  pub within : q ≤ length t
-  pub lines : cost′ + empty + 300 ≤ 128 * (q - p)
-  pub lays : len + 300 ≤ 128 * (q - p)
+-- ---- on a single line
 
-pub small : (t : List ℕ) (d p w i c q cost′ empty len : ℕ) → Bytes t → p ≤ length t → i + d ≤ depthLimit → Got t d p w i c q cost′ empty len
-    → Small t p q cost′ empty len
-small t d p w i c q cost′ empty len hb hp h g =
-    let e = found-in t d p q (g .tree) hp (g .is) in
-    record {
-      past = e .0;
-      within = e .1;
-      lines = omega (arith, line-len t d p q (g .tree) hb hp (omega arith) (g .is), g .lines-it);
-      lays = omega (arith, found-len t d p q (g .tree) Wrap w i c hb hp h (g .is), g .lays-it);
-    }
+module _ (t : List ℕ) (d p : ℕ) (m : Walked) (r : Size) (s : Walks t p (treeAt t d p) m) where
+  pub straight-stop : 0 < m .number → (r .number ≡ m .number) × (r .place ≡ m .place) → Straight t p (treeAt t d p) r
+  straight-stop l h = rw (walked-stop t p (treeAt t d p) m s l) (h .0, l, h .1)
+
+  pub straight : m .number ≤ 0 → (r .number ≡ 0) × (r .place ≡ m .place) × (r .cost ≡ m .cost) × (r .wrong ≡ m .wrong) × (r .len ≡ m .cost + m .empty)
+      → Straight t p (treeAt t d p) r
+  straight l h =
+      let y = walked-tree t d p m s l in
+      rw (y .0 .is) ((h .0, h .1, h .2 ∙ y .0 .costs-it, h .3 ∙ y .0 .wrong-it), omega (arith, h .4, y .0 .costs-it, y .1, line-size (y .0 .tree)))
+
+-- what is counted on a line does not wrap
+pub straight-small : (t : List ℕ) (d p : ℕ) (m : Walked) → p ≤ length t → Walks t p (treeAt t d p) m → m .number ≤ 0 → 22 * (m .cost + m .empty) ≤ 82 * length t
+straight-small t d p m hp s l =
+    let y = walked-tree t d p m s l in
+    let g = small t d p (m .place) (m .cost) (m .wrong) hp (y .0) in
+    omega (arith, g .bound, g .within, y .1, y .0 .costs-it, empties-le (y .0 .tree))
+
+-- a list on a single line is as it is laid: where it is empty, and where it fits by a cost that is its own
+laid-none : (w i c : ℕ) → length (laid w i c (list none)) ≡ 2
+unfolding lay
+laid-none w i c = by (fits w c (list none))
+  where
+    by : (b : Bool) → length (bytes (next (put (40 ∷ []) c) (λ c1. items none true (cond b SingleLine Wrap) w i c1))) ≡ 2
+    by true = refl
+    by false = refl
+
+line-laid : (xs : Trees) (w i c n k : ℕ) → count xs ≡ n → (eqb n 0 || fitsIn w c k) ≡ true → k ≡ cost (list xs) → length (line (list xs)) ≡ length (laid w i c (list xs))
+unfolding line
+line-laid none w i c n k e f h = sym (laid-none w i c)
+line-laid (more x xs) w i c n k e f h =
+    let z : eqb n 0 ≡ false = ne-eqb n 0 (λ u. omega arith) in
+    let g : fitsIn w c k ≡ true = rw z at f in
+    sym (ap length (laid-fits (more x xs) w i c (ap (fitsIn w c) (sym h) ∙ g)))
+
+pub empty-test : (n : ℕ) (f : Bool) → n ≡ 0 → (eqb n 0 || f) ≡ true
+empty-test n f e = rw (eq-eqb n 0 e) refl
+
+-- so many items are found as are looked for
+abbrev Counts : ℕ → Result (Found Trees) → Type 0
+Counts n (ok (found xs q)) = count xs ≡ n
+Counts n (refused m a) = Unit {0}
+
+items-count : (f : ℕ → Result (Found Tree)) (n p : ℕ) → Counts n (itemsAt f n p)
+unfolding itemsAt
+items-count f zero p = refl
+items-count f (suc n) p = first (f p) (items-count f n)
+  where
+    last : (x : Tree) (y : Result (Found Trees)) → Counts n y → Counts (suc n) (andThen y (λ xs r. ok (found (more x xs) r)))
+    last x (ok (found xs r)) h = ap suc h
+    last x (refused m a) h = tt
+
+    first : (y : Result (Found Tree)) → ((q : ℕ) → Counts n (itemsAt f n q)) → Counts (suc n) (andThen y (λ x q. andThen (itemsAt f n q) (λ xs r. ok (found (more x xs) r))))
+    first (ok (found x q)) ih = last x (itemsAt f n q) (ih q)
+    first (refused m a) ih = tt
 
 -- ---- a judged record s
 
 module _ (t : List ℕ) (d at : ℕ) (s : Step) (e : s ≡ stepAt t at (ltb 0 d)) (w i c : ℕ) (r : Size) where
-  to : (s′ : Step) → s ≡ s′ → Sized (ofStep t at (treeAt t (d - 1)) s′) w i c r → Sized (treeAt t d at) w i c r
-  to s′ e′ k = subst⁻¹ (λ (v : Result (Found Tree)). Sized v w i c r) (step-tree t d at s s′ e e′) k
+  to : (s′ : Step) → s ≡ s′ → Sized t at (ofStep t at (treeAt t (d - 1)) s′) w i c r → Sized t at (treeAt t d at) w i c r
+  to s′ e′ k = subst⁻¹ (λ (v : Result (Found Tree)). Sized t at v w i c r) (step-tree t d at s s′ e e′) k
 
-  pub at-fault : (n : ℕ) → s ≡ step.Fault n → (r .number ≡ n) × (r .place ≡ at) → Sized (treeAt t d at) w i c r
+  pub at-fault : (n : ℕ) → s ≡ step.Fault n → (r .number ≡ n) × (r .place ≡ at) → Sized t at (treeAt t d at) w i c r
   at-fault n e′ k = to (step.Fault n) e′ (k .0, step-in t d at s (step.Fault n) e e′ .0, k .1)
 
-  pub at-symbol : (len : ℕ) → s ≡ step.Symbol len → r ≡ record { number = 0; place = at + len; cost = len - headLen; empty = 0; len = len - headLen }
-      → Sized (treeAt t d at) w i c r
-  unfolding lay cost line
+  pub at-symbol : (len : ℕ) → s ≡ step.Symbol len → r ≡ record { number = 0; place = at + len; cost = len - headLen; wrong = length t; len = len - headLen }
+      → Sized t at (treeAt t d at) w i c r
+  unfolding lay cost costed
   at-symbol len e′ k =
       let a = step-in t d at s (step.Symbol len) e e′ in
-      to (step.Symbol len) e′ (rw (k, payload-is t at len (a .0) (a .1)) (refl, refl, refl, omega arith, refl))
+      to (step.Symbol len) e′ (rw (k, payload-is t at len (a .0) (a .1)) ((refl, refl, refl, refl), (λ _. refl), omega (arith, a .0)))
 
   pub at-integer : (n : ℕ) (z : ℤ) → s ≡ step.Integer → n ≡ length (integerText z) → z ≡ wideIn t (at + headLen)
-      → r ≡ record { number = 0; place = at + integerLen; cost = n; empty = 0; len = n } → Sized (treeAt t d at) w i c r
-  unfolding lay cost line
+      → r ≡ record { number = 0; place = at + integerLen; cost = n; wrong = length t; len = n } → Sized t at (treeAt t d at) w i c r
+  unfolding lay cost costed
   at-integer n z e′ en ez k =
-      to step.Integer e′ (rw (k, en, integer-value t at z (step-in t d at s step.Integer e e′ .0) ez) (refl, refl, refl, omega arith, refl))
+      let l : n + 300 ≤ 128 * (at + integerLen - at) = omega (arith, en, integer-top z) in
+      let v = integer-value t at z (step-in t d at s step.Integer e e′ .0) ez in
+      let f : n ≡ length (integerText (integerAt t (at + headLen))) = en ∙ ap (λ (y : ℤ). length (integerText y)) v in
+      to step.Integer e′ (rw k ((refl, refl, f, refl), (λ _. f), l))
 
   -- m is what the tree below was measured as
-  pub binding-stop : (len : ℕ) (m : Size) → s ≡ step.Binding len → Sized (treeAt t (d - 1) (at + len)) w i (c + (len - headLen + 3)) m → 0 < m .number
-      → (r .number ≡ m .number) × (r .place ≡ m .place) → Sized (treeAt t d at) w i c r
+  pub binding-stop : (len : ℕ) (m : Size) → s ≡ step.Binding len → Sized t (at + len) (treeAt t (d - 1) (at + len)) w i (c + (len - headLen + 3)) m → 0 < m .number
+      → (r .number ≡ m .number) × (r .place ≡ m .place) → Sized t at (treeAt t d at) w i c r
   binding-stop len m e′ u l k =
-      to (step.Binding len) e′ (rw (stop-of (treeAt t (d - 1) (at + len)) w i (c + (len - headLen + 3)) m u l) (k .0, l, k .1))
+      to (step.Binding len) e′ (rw (stop-of t (at + len) (treeAt t (d - 1) (at + len)) w i (c + (len - headLen + 3)) m u l) (k .0, l, k .1))
 
-  pub binding-good : (len : ℕ) (m : Size) → s ≡ step.Binding len → Sized (treeAt t (d - 1) (at + len)) w i (c + (len - headLen + 3)) m → m .number ≤ 0
-      → (r .number ≡ 0) × (r .place ≡ m .place) × (r .cost ≡ len - headLen + 3 + m .cost) × (r .empty ≡ m .empty) × (r .len ≡ len - headLen + 3 + m .len)
-      → Sized (treeAt t d at) w i c r
-  unfolding cost
-  binding-good len m e′ u l k =
-      let y = got-tree t (d - 1) (at + len) w i (c + (len - headLen + 3)) m u l in
+  pub binding-good : (len : ℕ) (m : Size) → s ≡ step.Binding len → at ≤ length t → Sized t (at + len) (treeAt t (d - 1) (at + len)) w i (c + (len - headLen + 3)) m → m .number ≤ 0
+      → (r .number ≡ 0) × (r .place ≡ m .place) × (r .cost ≡ len - headLen + 3 + m .cost) × (r .wrong ≡ m .wrong) × (r .len ≡ len - headLen + 3 + m .len)
+      → Sized t at (treeAt t d at) w i c r
+  unfolding cost costed
+  binding-good len m e′ hat u l k =
+      let y = laid-tree t (d - 1) (at + len) w i (c + (len - headLen + 3)) m u l in
+      let x : Tree = y .got .tree in
       let a = step-in t d at s (step.Binding len) e e′ in
       let nm : List ℕ = payload t at len in
       let z : length nm ≡ len - headLen = payload-is t at len (a .0) (a .1) in
-      let v : len - headLen + 3 ≡ length (named nm) = omega (arith, named-size nm) in
-      let f = ap length (line-binding nm (y .tree)) ∙ length-append (named nm) (line (y .tree)) in
-      let g = ap length (laid-binding nm (y .tree) w i c (len - headLen + 3) v) ∙ length-append (named nm) (laid w i (c + (len - headLen + 3)) (y .tree)) in
-      to (step.Binding len) e′ (rw (y .is) (
-        k .0,
-        k .1,
-        k .2 ∙ omega (arith, y .costs-it),
-        omega (arith, k .2, k .3, y .lines-it, f),
-        k .4 ∙ omega (arith, y .lays-it, g),
+      let v : len - headLen + 3 ≡ length (named nm) = omega (arith, named-size nm, z) in
+      let j : at + (length nm + headLen) ≡ at + len = omega (arith, z, a .0) in
+      let g = ap length (laid-binding nm x w i c (len - headLen + 3) v) ∙ length-append (named nm) (laid w i (c + (len - headLen + 3)) x) in
+      let q = small t (d - 1) (at + len) (m .place) (m .cost) (m .wrong) (omega (arith, a .0, a .1)) (y .got) in
+      to (step.Binding len) e′ (rw (y .got .is) (
+        (k .0, k .1, k .2 ∙ omega (arith, y .got .costs-it, z), k .3 ∙ y .got .wrong-it ∙ ap (λ (o : ℕ). wrongIn (length t) (costed t x o)) (sym j)),
+        (λ f. k .4 ∙ omega (arith, y .lays (subst (λ (o : ℕ). costed t x o ≡ ok tt) j f), g, v)),
+        omega (arith, k .4, y .bound, q .past, a .0),
       ))
 
-  pub at-list : (n : ℕ) → s ≡ step.List n → Sized (andThen (itemsAt (treeAt t (d - 1)) n (at + listLen)) (λ xs q. ok (found (list xs) q))) w i c r
-      → Sized (treeAt t d at) w i c r
+  -- an empty list, or one that fits by the cost that it stores
+  pub at-line : (n : ℕ) → s ≡ step.List n → at ≤ length t → (eqb n 0 || fitsIn w c (storedCost t at)) ≡ true → Straight t at (treeAt t d at) r → Sized t at (treeAt t d at) w i c r
+  at-line n e′ hat f k = by (itemsAt (treeAt t (d - 1)) n (at + listLen)) (items-count (treeAt t (d - 1)) n (at + listLen)) refl
+    where
+      by : (y : Result (Found Trees)) → Counts n y → itemsAt (treeAt t (d - 1)) n (at + listLen) ≡ y → Sized t at (treeAt t d at) w i c r
+      by (ok (found xs q)) h g =
+          let z : treeAt t d at ≡ ok (found (list xs) q) = step-tree t d at s (step.List n) e e′ ∙ rw g refl in
+          let u : Straight t at (ok (found (list xs) q)) r = subst (λ (v : Result (Found Tree)). Straight t at v r) z k in
+          let l = tree-span t d at q (list xs) hat z in
+          rw z (
+            u .0,
+            (λ o. u .1 ∙ line-laid xs w i c n (storedCost t at) h f (list-right t xs at o .0)),
+            omega (arith, u .1, line-size (list xs), cost-le (list xs), empties-le (list xs), list-records xs, l .0),
+          )
+      by (refused m a) h g =
+          let z : treeAt t d at ≡ refused m a = step-tree t d at s (step.List n) e e′ ∙ rw g refl in
+          rw z (subst (λ (v : Result (Found Tree)). Straight t at v r) z k)
+
+  pub at-list : (n : ℕ) → s ≡ step.List n → Sized t at (andThen (itemsAt (treeAt t (d - 1)) n (at + listLen)) (λ xs q. ok (found (list xs) q))) w i c r
+      → Sized t at (treeAt t d at) w i c r
   at-list n e′ k = to (step.List n) e′ k
 
--- the count of a list fits 4 bytes
-pub list-few : (t : List ℕ) (d at n : ℕ) (s : Step) → Bytes t → s ≡ stepAt t at (ltb 0 d) → s ≡ step.List n → n < 4294967296
-list-few t d at n s hb e e′ =
-    let h = step-in t d at s (step.List n) e e′ in omega (arith, part-lt t (at + headLen) 4 hb (omega arith), h .2)
+-- a record whose kind is a list's, and which fits by what was read as its cost, by the code's test
+module _ (t : List ℕ) (d at w : ℕ) where
+  -- the kind that was read
+  kind-read : (k kind : ℕ) → at + headLen ≤ length t → k ≡ numberIn 2 t (at + 4) → kindAt t at ≡ kind → k ≡ kind
+  kind-read k kind h e f = sym (within-is 2 t (at + 4) k (omega arith) e) ∙ f
 
--- ---- the items of a list: k of them are done, and p is past them
+  pub kind-line : (i c : ℕ) (r : Size) (k j : ℕ) (f : Bool) → at ≤ length t → k ≡ numberIn 2 t (at + 4) → j ≡ storedCost t at → f ≡ fitsIn w c j → (eqb k listKind && f) ≡ true
+      → Straight t at (treeAt t d at) r → Sized t at (treeAt t d at) w i c r
+  kind-line i c r k j f hat ek ej ef h u = by (stepAt t at (ltb 0 d)) refl (step-in t d at (stepAt t at (ltb 0 d)) (stepAt t at (ltb 0 d)) refl refl)
+    where
+      is : k ≡ listKind
+      is = eqb-true k listKind (and-left (eqb k listKind) f h)
 
-pub record Walk (t : List ℕ) (at n d w i c p k cost′ empty len : ℕ) : Type 0 where
-  pub gone : Gone (treeAt t d) n at k p
-  pub costing : (ys : Trees) → n + 1 + costs (gone .pre ys) ≡ cost′ + costs ys
-  pub lined : (ys : Trees) → n + 1 + sizes flatly (gone .pre ys) true ≡ cost′ + empty + sizes flatly ys (eqb k 0)
-  pub summed : (ys : Trees) → length (bytes (nl i)) + 2 + sizes (broken w i (c + 1)) (gone .pre ys) true ≡ len + sizes (broken w i (c + 1)) ys (eqb k 0)
-  pub from : at ≤ p
-  pub within : p ≤ length t
-  pub lines : cost′ + empty ≤ n + 1 + 128 * (p - at)
-  pub lays : len ≤ 259 + 128 * (p - at)
+      fit : fitsIn w c (storedCost t at) ≡ true
+      fit = sym (ef ∙ ap (fitsIn w c) ej) ∙ and-right (eqb k listKind) f h
 
-pub walk-begin : (t : List ℕ) (at n d w i c k : ℕ) → at ≤ length t → i ≤ depthLimit → k ≡ length (bytes (nl i)) → Walk t at n d w i c at 0 (n + 1) 0 (k + 2)
-walk-begin t at n d w i c k h hi e = rw e record {
-  gone = gone-begin (treeAt t d) n at;
-  costing = λ ys. refl;
-  lined = λ ys. omega arith;
-  summed = λ ys. refl;
-  from = omega arith;
-  within = h;
-  lines = omega arith;
-  lays = omega (arith, nl-len-le i (length (bytes (nl i))) hi refl);
+      by : (s : Step) → stepAt t at (ltb 0 d) ≡ s → StepIn t d at s → Sized t at (treeAt t d at) w i c r
+      by (step.Fault n) e g =
+          let z : treeAt t d at ≡ refused n at = step-tree t d at (stepAt t at (ltb 0 d)) (step.Fault n) refl e in
+          rw z (subst (λ (v : Result (Found Tree)). Straight t at v r) z u)
+      by (step.Symbol len) e g = absurd (omega (arith, is, kind-read k symbolKind (omega (arith, g .0, g .1)) ek (g .4)))
+      by step.Integer e g = absurd (omega (arith, is, kind-read k integerKind (omega (arith, g .0)) ek (g .2)))
+      by (step.Binding len) e g = absurd (omega (arith, is, kind-read k bindingKind (omega (arith, g .0, g .1)) ek (g .5)))
+      by (step.List n) e g = at-line t d at (stepAt t at (ltb 0 d)) refl w i c r n e hat (rw fit (or-true (eqb n 0))) u
+        where
+          or-true : (b : Bool) → (b || true) ≡ true
+          or-true true = refl
+          or-true false = refl
+
+  -- a list that did not pass it
+  pub no-line : (c n k j : ℕ) (f : Bool) → StepIn t d at (step.List n) → k ≡ numberIn 2 t (at + 4) → j ≡ storedCost t at → f ≡ fitsIn w c j → (eqb k listKind && f) ≡ false
+      → fitsIn w c (storedCost t at) ≡ false
+  no-line c n k j f g ek ej ef h =
+      let z : eqb k listKind ≡ true = eq-eqb k listKind (kind-read k listKind (omega (arith, g .0)) ek (g .4)) in
+      sym (ef ∙ ap (fitsIn w c) ej) ∙ rw z at h
+
+-- ---- the items of the wrapped list at `at`: j of them are done, and p is past them; len counts them, its parentheses and the line break before the last, if no cost is wrong
+
+pub record Laying (t : List ℕ) (at n d w i c p j k a len : ℕ) : Type 0 where
+  pub walk : Walk t at n d p j k a
+  summed : (ys : Trees) → costedAll t (walk .gone .pre ys) (at + listLen) ≡ ok tt
+      → (length (bytes (nl i)) + 2 + sizes (broken w i (c + 1)) (walk .gone .pre ys) true ≡ len + sizes (broken w i (c + 1)) ys (eqb j 0)) × (costedAll t ys p ≡ ok tt)
+  pub bound : len + 300 * j ≤ 259 + 128 * (p - (at + listLen))
+
+pub laying-begin : (t : List ℕ) (at n d w i c k : ℕ) → at + listLen ≤ length t → i ≤ depthLimit → k ≡ length (bytes (nl i))
+    → Laying t at n d w i c (at + listLen) 0 (n + 1) (length t) (k + 2)
+laying-begin t at n d w i c k h hi e = rw e record {
+  walk = walk-begin t at n d h;
+  summed = λ ys f. (refl, f);
+  bound = omega (arith, nl-len-le i (length (bytes (nl i))) hi refl);
 }
 
-module _ (t : List ℕ) (at n d w i c p k cost′ empty len : ℕ) (g : Walk t at n d w i c p k cost′ empty len) (lt : k < n) where
+module _ (t : List ℕ) (at n d w i c p j k a len : ℕ) (g : Laying t at n d w i c p j k a len) (lt : j < n) where
   -- the indent and the column of the item at p
   abbrev pub ind : ℕ
-  ind = inner (eqb k 0) Wrap i
+  ind = inner (eqb j 0) Wrap i
 
   abbrev pub col : ℕ
-  col = column (gap (eqb k 0) Wrap i (c + 1))
+  col = column (gap (eqb j 0) Wrap i (c + 1))
 
-  walk-item : (q a b l cost″ empty″ len″ : ℕ) → Bytes t → i + 1 + d ≤ depthLimit → Got t d p w ind col q a b l
-      → cost″ ≡ cost′ + a → empty″ ≡ empty + b → len″ ≡ len + l → Walk t at n d w i c q (k + 1) cost″ empty″ len″
-  unfolding cost sizes
-  walk-item q a b l cost″ empty″ len″ hb hi y ea eb el =
-      let s = small t d p w ind col q a b l hb (g .within) (omega (arith, inner-le (eqb k 0) Wrap i)) y in
-      let x : Tree = y .tree in
-      let z : eqb (k + 1) 0 ≡ false = ne-eqb (k + 1) 0 (λ (u : k + 1 ≡ 0). omega arith) in
+  laying-item : (q k1 a1 l k′ a′ len′ : ℕ) → Laid t d p w ind col q k1 a1 l → k′ ≡ k + k1 → a′ ≡ firstOf (length t) a a1 → len′ ≡ len + l
+      → Laying t at n d w i c q (j + 1) k′ a′ len′
+  unfolding sizes costed
+  laying-item q k1 a1 l k′ a′ len′ y ek ea el =
+      let x : Tree = y .got .tree in
+      let v = walk-item t at n d p j k a (g .walk) q k1 a1 k′ a′ lt (y .got) ek ea in
+      let s = small t d p q k1 a1 (g .walk .within) (y .got) in
+      let z : eqb (j + 1) 0 ≡ false = ne-eqb (j + 1) 0 (λ (u : j + 1 ≡ 0). omega arith) in
       record {
-        gone = gone-item (treeAt t d) n at k p (g .gone) q x lt (y .is);
-        costing = λ ys. g .costing (more x ys) ∙ omega (arith, y .costs-it);
-        lined = λ ys. g .lined (more x ys) ∙ rw z (omega (arith, y .lines-it));
-        summed = λ ys. g .summed (more x ys) ∙ rw z (omega (arith, y .lays-it));
-        from = omega (arith, g .from, s .past);
-        within = s .within;
-        lines = omega (arith, g .lines, g .from, s .lines, s .past);
-        lays = omega (arith, g .lays, g .from, s .lays, s .past);
+        walk = v .rest;
+        summed =
+            λ ys e.
+            let h = g .summed (more x ys) (subst (λ (xs : Trees). costedAll t xs (at + listLen) ≡ ok tt) (v .pre-is ys) e) in
+            let b = both-right (costed t x p) (λ _. costedAll t ys (p + length (records x))) (h .1) in (
+              ap (λ (xs : Trees). length (bytes (nl i)) + 2 + sizes (broken w i (c + 1)) xs true) (v .pre-is ys) ∙ h .0 ∙ rw z (omega (arith, y .lays (b .0))),
+              subst⁻¹ (λ (o : ℕ). costedAll t ys o ≡ ok tt) (tree-span t d p q x (g .walk .within) (y .got .is) .0) (b .1),
+            );
+        bound = omega (arith, g .bound, g .walk .from, y .bound, s .past);
       }
 
-  pub walk-name : (q p″ cost″ empty″ len″ : ℕ) → Bytes t → i + 1 + d ≤ depthLimit → q ≡ pastSymbol t p → p < q → p″ ≡ q → cost″ ≡ cost′ + (q - p - headLen)
-      → empty″ ≡ empty → len″ ≡ len + (q - p - headLen) → Walk t at n d w i c p″ (k + 1) cost″ empty″ len″
-  walk-name q p″ cost″ empty″ len″ hb hi f l ep ea eb el =
-      let y = got-name t d p w ind col q f l in
-      rw ep (walk-item q (q - p - headLen) 0 (q - p - headLen) cost″ empty″ len″ hb hi (y .1) ea (eb ∙ omega arith) el)
+  pub laying-name : (q p′ k′ a′ len′ : ℕ) → q ≡ pastSymbol t p → p < q → p′ ≡ q → k′ ≡ k + (q - p - headLen) → a′ ≡ a → len′ ≡ len + (q - p - headLen)
+      → Laying t at n d w i c p′ (j + 1) k′ a′ len′
+  laying-name q p′ k′ a′ len′ f l ep ek ea el =
+      rw ep (laying-item q (q - p - headLen) (length t) (q - p - headLen) k′ a′ len′ (laid-name t d p w ind col q f l) ek (ea ∙ sym (first-none (length t) a)) el)
 
-  pub walk-tree : (j o p″ cost″ empty″ len″ : ℕ) (m : Size) → Bytes t → i + 1 + d ≤ depthLimit → j ≡ ind → o ≡ col → Sized (treeAt t d p) w j o m → m .number ≤ 0
-      → p″ ≡ m .place → cost″ ≡ cost′ + m .cost → empty″ ≡ empty + m .empty → len″ ≡ len + m .len → Walk t at n d w i c p″ (k + 1) cost″ empty″ len″
-  walk-tree j o p″ cost″ empty″ len″ m hb hi ej eo s l ep ea eb el =
-      let s′ : Sized (treeAt t d p) w ind col m = subst (λ (v : ℕ). Sized (treeAt t d p) w ind v m) eo (subst (λ (v : ℕ). Sized (treeAt t d p) w v o m) ej s) in
-      rw ep (walk-item (m .place) (m .cost) (m .empty) (m .len) cost″ empty″ len″ hb hi (got-tree t d p w ind col m s′ l) ea eb el)
+  pub laying-tree : (o u p′ k′ a′ len′ : ℕ) (m : Size) → o ≡ ind → u ≡ col → Sized t p (treeAt t d p) w o u m → m .number ≤ 0
+      → p′ ≡ m .place → k′ ≡ k + m .cost → a′ ≡ firstOf (length t) a (m .wrong) → len′ ≡ len + m .len → Laying t at n d w i c p′ (j + 1) k′ a′ len′
+  laying-tree o u p′ k′ a′ len′ m eo eu s l ep ek ea el =
+      let s′ : Sized t p (treeAt t d p) w ind col m = subst (λ (v : ℕ). Sized t p (treeAt t d p) w ind v m) eu (subst (λ (v : ℕ). Sized t p (treeAt t d p) w v u m) eo s) in
+      rw ep (laying-item (m .place) (m .cost) (m .wrong) (m .len) k′ a′ len′ (laid-tree t d p w ind col m s′ l) ek ea el)
 
   -- m is the refusal at p
-  pub walk-stop : (j o : ℕ) (m r : Size) → Sized (treeAt t d p) w j o m → 0 < m .number → (r .number ≡ m .number) × (r .place ≡ m .place)
-      → Sized (andThen (itemsAt (treeAt t d) n at) (λ xs q. ok (found (list xs) q))) w i c r
-  walk-stop j o m r s l h =
-      rw (gone-stop (treeAt t d) n at k p (g .gone) (m .number) (m .place) lt (stop-of (treeAt t d p) w j o m s l)) (h .0, l, h .1)
+  pub laying-stop : (o u : ℕ) (m r : Size) → Sized t p (treeAt t d p) w o u m → 0 < m .number → (r .number ≡ m .number) × (r .place ≡ m .place)
+      → Sized t at (andThen (itemsAt (treeAt t d) n (at + listLen)) (λ xs q. ok (found (list xs) q))) w i c r
+  laying-stop o u m r s l h =
+      rw (gone-stop (treeAt t d) n (at + listLen) j p (g .walk .gone) (m .number) (m .place) lt (stop-of t p (treeAt t d p) w o u m s l)) (h .0, l, h .1)
 
-module _ (t : List ℕ) (at n d w i c p k cost′ empty len : ℕ) (g : Walk t at n d w i c p k cost′ empty len) (le : n ≤ k) (some : 0 < n) where
-  abbrev walked : Trees
-  walked = g .gone .pre none
+-- n line breaks of e bytes each
+pub breaks-fit : (n e i : ℕ) → i ≤ depthLimit → e ≡ length (bytes (nl i)) → n * e ≤ n * 257
+breaks-fit n e i l eq = mul-le-mul-left n (nl-len-le i e l eq)
 
-  is-all : itemsAt (treeAt t d) n at ≡ ok (found walked p)
-  is-all = gone-end (treeAt t d) n at k p (g .gone) le
-
-  all-count : count walked ≡ n
-  all-count = g .gone .counted none ∙ omega (arith, g .gone .few)
-
-  all-cost : cost′ ≡ cost (list walked)
-  unfolding cost
-  all-cost = omega (arith, all-count, g .costing none)
-
-  all-line : cost′ + empty ≡ length (line (list walked))
+module _ (t : List ℕ) (at n d w i c p j k a len : ℕ) (g : Laying t at n d w i c p j k a len) (le : n ≤ j) (some : 0 < n) where
+  pub laying-end : (o : ℕ) (r : Size) → i + 1 ≤ depthLimit → fitsIn w c (storedCost t at) ≡ false → o ≡ ownWrong t at k
+      → (r .number ≡ 0) × (r .place ≡ p) × (r .cost ≡ k) × (r .wrong ≡ firstOf (length t) o a) × (r .len ≡ len + (n - 1) * length (bytes (nl (i + 1))))
+      → Sized t at (andThen (itemsAt (treeAt t d) n (at + listLen)) (λ xs q. ok (found (list xs) q))) w i c r
   unfolding sizes
-  all-line = omega (arith, g .lined none, all-count, line-size walked (omega (arith, all-count)))
+  laying-end o r hi nofit eo h =
+      let xs : Trees = g .walk .gone .pre none in
+      let ec : count xs ≡ n = all-count t at n d p j k a (g .walk) le in
+      let b = breaks-fit (n - 1) (length (bytes (nl (i + 1)))) (i + 1) hi refl in
+      rw (is-all t at n d p j k a (g .walk) le) (
+        (h .0, h .1, h .2 ∙ all-cost t at n d p j k a (g .walk) le, all-wrong t at n d p j k a (g .walk) le o (r .wrong) eo (h .3)),
+        (λ f.
+            let u = list-right t xs at f in
+            let v = laid-size xs w i c (omega (arith, ec)) (ap (fitsIn w c) (sym (u .0)) ∙ nofit) in
+            h .4 ∙ omega (arith, v, ap (λ (v : ℕ). (v - 1) * length (bytes (nl (i + 1)))) ec, g .summed none (u .1) .0)),
+        omega (arith, h .4, b, g .bound, g .walk .from, g .walk .gone .few),
+      )
 
-  pub walk-line : (fit : Bool) (r : Size) → fit ≡ fitsIn w c cost′ → fit ≡ true
-      → (r .number ≡ 0) × (r .place ≡ p) × (r .cost ≡ cost′) × (r .empty ≡ empty) × (r .len ≡ cost′ + empty)
-      → Sized (andThen (itemsAt (treeAt t d) n at) (λ xs q. ok (found (list xs) q))) w i c r
-  walk-line fit r ef e h =
-      let f : fitsIn w c (cost (list walked)) ≡ true = ap (fitsIn w c) (sym all-cost) ∙ sym ef ∙ e in
-      rw is-all (h .0, h .1, h .2 ∙ all-cost, omega (arith, h .2, h .3, all-line), h .4 ∙ all-line ∙ sym (ap length (laid-fits walked w i c f)))
+-- ---- trees up to the table's end: n bytes are those of the trees before p, if no cost is wrong
 
-  pub walk-wide : (fit : Bool) (r : Size) → fit ≡ fitsIn w c cost′ → fit ≡ false
-      → (r .number ≡ 0) × (r .place ≡ p) × (r .cost ≡ cost′) × (r .empty ≡ empty) × (r .len ≡ len + (n - 1) * length (bytes (nl (i + 1))))
-      → Sized (andThen (itemsAt (treeAt t d) n at) (λ xs q. ok (found (list xs) q))) w i c r
-  unfolding sizes
-  walk-wide fit r ef e h =
-      let f : fitsIn w c (cost (list walked)) ≡ false = ap (fitsIn w c) (sym all-cost) ∙ sym ef ∙ e in
-      let a = laid-size walked w i c (omega (arith, all-count)) f in
-      let b = ap (λ (v : ℕ). (v - 1) * length (bytes (nl (i + 1)))) all-count in
-      rw is-all (h .0, h .1, h .2 ∙ all-cost, omega (arith, h .2, h .3, all-line), h .4 ∙ omega (arith, a, b, g .summed none))
-
--- an empty list is () at any width, whether it fits or not
-pub none-sized : (t : List ℕ) (at n d w i c : ℕ) (r : Size) → n ≡ 0 → (r .number ≡ 0) × (r .place ≡ at) × (r .cost ≡ 1) × (r .empty ≡ 1) × (r .len ≡ 2)
-    → Sized (andThen (itemsAt (treeAt t d) n at) (λ xs q. ok (found (list xs) q))) w i c r
-unfolding itemsAt lay cost line
-none-sized t at n d w i c r e h = rw e (h .0, h .1, h .2, omega (arith, h .2, h .3), h .4 ∙ by (fitsIn w c 1))
-  where
-    by : (b : Bool) → 2 ≡ length (bytes (items none true (cond b SingleLine Wrap) w i (c + 1))) + 1
-    by true = refl
-    by false = refl
-
--- k line breaks of e bytes each, and b bytes besides
-pub breaks-fit : (k e i : ℕ) → k ≤ 4294967295 → i ≤ depthLimit → e ≡ length (bytes (nl i)) → k * e ≤ 4294967295 * 257
-breaks-fit k e i h l eq = omega (arith, mul-le-mul-left k (nl-len-le i e l eq), h)
-
--- ---- trees up to the table's end: n bytes are those of the trees before p
-
-pub record Paged (t : List ℕ) (w p n : ℕ) : Type 0 where
-  pub read : Read t p
-  pub paged : (ys : Trees) → length (page (read .pre ys) w) ≡ n + length (pageFrom (ltb 0 p) ys w)
+pub record Paged (t : List ℕ) (w p a n : ℕ) : Type 0 where
+  pub checks : Checks t p a
+  paged : (ys : Trees) → costedAll t (checks .read .pre ys) 0 ≡ ok tt → (length (page (checks .read .pre ys) w) ≡ n + length (pageFrom (ltb 0 p) ys w)) × (costedAll t ys p ≡ ok tt)
   pub size : n ≤ 128 * p
 
-pub paged-long : (t : List ℕ) (w : ℕ) → tableLimit < length t → Summed (tableOf t) w (Refused (record { number = tooLong; place = tableLimit }))
-paged-long t w h = rw (too-long t h) (refl, refl)
+abbrev pub No : ℕ → ℕ → Measured
+No n a = Refused (record { number = n; place = a })
 
-pub paged-begin : (t : List ℕ) (w : ℕ) → length t ≤ tableLimit → Paged t w 0 0
-paged-begin t w h = record { read = read-begin t h; paged = λ ys. omega arith; size = omega arith }
+pub summed-no : (y : Result (Found Trees)) (w n a : ℕ) (r : Measured) → y ≡ refused n a → r ≡ No n a → Summed y w r
+summed-no y w n a r e f = rw (e, f) (refl, refl)
+
+pub paged-begin : (t : List ℕ) (w : ℕ) → length t ≤ tableLimit → Paged t w 0 (length t) 0
+paged-begin t w h = record { checks = checks-begin t h; paged = λ ys e. (omega arith, e); size = omega arith }
 
 -- the LF between two trees
 abbrev lead : ℕ → List ℕ
@@ -296,30 +363,39 @@ more-size later x xs w =
     let b = length-append l r in
     omega arith
 
-module _ (t : List ℕ) (w p n : ℕ) (g : Paged t w p n) where
+module _ (t : List ℕ) (w p a n : ℕ) (g : Paged t w p a n) where
   -- n′ counts the LF before the tree
-  pub paged-tree : (n′ : ℕ) (m : Size) → Bytes t → p < length t → Sized (treeAt t depthLimit p) w 0 0 m → m .number ≤ 0 → n′ ≡ n + length (lead p)
-      → (p < m .place) × Paged t w (m .place) (n′ + m .len + 1)
-  paged-tree n′ m hb h s l en =
-      let y = got-tree t depthLimit p w 0 0 m s l in
-      let v = small t depthLimit p w 0 0 (m .place) (m .cost) (m .empty) (m .len) hb (g .read .within) (omega arith) y in
-      let o = read-tree t p (g .read) (m .place) (y .tree) h (y .is) in (
+  pub paged-tree : (n′ a′ : ℕ) (m : Size) → p < length t → Sized t p (treeAt t depthLimit p) w 0 0 m → m .number ≤ 0 → n′ ≡ n + length (lead p)
+      → a′ ≡ firstOf (length t) a (m .wrong) → (p < m .place) × Paged t w (m .place) a′ (n′ + m .len + 1)
+  unfolding costed
+  paged-tree n′ a′ m h s l en ea =
+      let y = laid-tree t depthLimit p w 0 0 m s l in
+      let x : Tree = y .got .tree in
+      let o = checks-tree t p a (g .checks) (m .place) (m .cost) (m .wrong) a′ h (y .got) ea in (
         o .past,
         record {
-          read = o .rest;
+          checks = o .rest;
           paged =
-              λ ys.
-              ap (λ (xs : Trees). length (page xs w)) (o .pre-is ys) ∙ g .paged (more (y .tree) ys)
-              ∙ rw (lt-ltb 0 (m .place) (omega (arith, o .past))) (omega (arith, more-size (ltb 0 p) (y .tree) ys w, y .lays-it));
-          size = omega (arith, g .size, lead-le (ltb 0 p), v .lays, v .past);
+              λ ys e.
+              let f = g .paged (more x ys) (subst (λ (xs : Trees). costedAll t xs 0 ≡ ok tt) (o .pre-is ys) e) in
+              let b = both-right (costed t x p) (λ _. costedAll t ys (p + length (records x))) (f .1) in (
+                ap (λ (xs : Trees). length (page xs w)) (o .pre-is ys) ∙ f .0
+                    ∙ rw (lt-ltb 0 (m .place) (omega (arith, o .past))) (omega (arith, more-size (ltb 0 p) x ys w, y .lays (b .0), en)),
+                subst⁻¹ (λ (q : ℕ). costedAll t ys q ≡ ok tt) (tree-span t depthLimit p (m .place) x (g .checks .read .within) (y .got .is) .0) (b .1),
+              );
+          size = omega (arith, g .size, lead-le (ltb 0 p), y .bound, o .past, en);
         },
       )
 
-  pub paged-stop : (m : Size) → p < length t → Sized (treeAt t depthLimit p) w 0 0 m → 0 < m .number
-      → Summed (tableOf t) w (Refused (record { number = m .number; place = m .place }))
-  paged-stop m h s l =
-      rw (read-stop t p (g .read) (m .number) (m .place) h (stop-of (treeAt t depthLimit p) w 0 0 m s l)) (refl, refl)
+  pub paged-stop : (m : Size) (r : Measured) → p < length t → Sized t p (treeAt t depthLimit p) w 0 0 m → 0 < m .number → r ≡ No (m .number) (m .place) → Summed (tableOf t) w r
+  paged-stop m r h s l e =
+      summed-no (tableOf t) w (m .number) (m .place) r (read-stop t p (g .checks .read) (m .number) (m .place) h (stop-of t p (treeAt t depthLimit p) w 0 0 m s l)) e
 
-  pub paged-end : length t ≤ p → Summed (tableOf t) w (Text n)
+  pub paged-wrong : (r : Measured) → length t ≤ p → a < length t → r ≡ No wrongCost a → Summed (tableOf t) w r
+  paged-wrong r h l e = summed-no (tableOf t) w wrongCost a r (checks-wrong t p a (g .checks) h l) e
+
+  pub paged-end : length t ≤ p → length t ≤ a → Summed (tableOf t) w (Text n)
   unfolding pageFrom
-  paged-end h = rw (read-end t p (g .read) h) (sym (g .paged none ∙ omega arith))
+  paged-end h l =
+      let e = checks-good t p a (g .checks) h l in
+      rw e (sym (g .paged none (accepted-shape t (g .checks .read .pre none) p e .1) .0 ∙ omega arith))

@@ -12,8 +12,9 @@ use borrow.Rule.Slice.PartMut.{putMid}
 use Rattle.refusals.specs.Numbers.{tableLimit, depthLimit, tooLong, printRoom}
 use Rattle.refusals.specs.Result.{Result, ok, refused}
 use Rattle.refusals.specs.declared.Refusal.{Refusal}
-use Rattle.table.specs.Trees.{Tree, Trees, none, more}
-use Rattle.table.specs.Decoding.{Found, found, treeAt, treesAt, tableOf}
+use Rattle.table.specs.Trees.{Tree, Trees, none, more, records}
+use Rattle.table.specs.Costs.{costed, costedAll}
+use Rattle.table.specs.Decoding.{Found, found, andThen, treeAt, treesAt, shapeOf, tableOf}
 use Rattle.printer.specs.Layout.{pageFrom, page}
 use Rattle.printer.specs.Looking.{pageLooked}
 use Rattle.printer.specs.Printing.{text, printing, printedInto, printOf}
@@ -25,6 +26,9 @@ use Rattle.printer.specs.declared.measure.Measured.{Measured}
 use Rattle.printer.specs.declared.measure.Measured.the-variants.{Bytes, Refused as No}
 use Rattle.printer.specs.declared.Printed.{Printed}
 use Rattle.printer.specs.declared.Printed.the-variants.{Text, Refused}
+use Rattle.table.proofs.Costs.{both-right}
+use Rattle.table.proofs.Spans.{tree-span}
+use Rattle.table.proofs.Whole.{accepted-shape}
 use Rattle.table.proofs.Steps.{Read, read-begin, read-tree, read-stop, read-end}
 use Rattle.lists.proofs.Rooms.{puts-both}
 
@@ -72,6 +76,7 @@ pub record Paging (t : List ℕ) (w : ℕ) (o : List ℕ) (k p : ℕ) : Type 0 w
   pub read : Read t p
   pub left : (ys : Trees) → page (read .pre ys) w ≡ o ++ pageFrom (ltb 0 p) ys w
   pub counted : (ys : Trees) → pageLooked (read .pre ys) w ≡ k + pageLooked ys w
+  pub costs : (ys : Trees) → costedAll t (read .pre ys) 0 ≡ ok tt → costedAll t ys p ≡ ok tt
 
 more-page : (later : Bool) (x : Tree) (xs : Trees) (w : ℕ) → pageFrom later (more x xs) w ≡ between later ++ (laid w 0 0 x ++ (10 ∷ pageFrom true xs w))
 unfolding pageFrom
@@ -85,18 +90,48 @@ more-looked x xs w = refl
 abbrev pub node : List ℕ → ℕ → ℕ → List ℕ
 node t w p = framed (ltb 0 p) w (treeOf (treeAt t depthLimit p))
 
+-- a table that is right has a shape, and right costs
+record Shaped (t : List ℕ) : Type 0 where
+  same : tableOf t ≡ shapeOf t
+  right : Right (shapeOf t)
+  costs : costedAll t (treesOf (shapeOf t)) 0 ≡ ok tt
+
+shaped : (t : List ℕ) → Right (tableOf t) → Shaped t
+shaped t r = by (tableOf t) refl r
+  where
+    by : (y : Result (Found Trees)) → tableOf t ≡ y → Right y → Shaped t
+    by (ok (found xs q)) e r = let a = accepted-shape t xs q e in record { same = e ∙ sym (a .0); right = rw (a .0) tt; costs = rw (a .0) (a .1) }
+    by (refused n a) e r = absurd r
+
+-- what holds of the trees done before any others holds of all
+all-left : (t : List ℕ) (p : ℕ) (g : Read t p) → Right (shapeOf t) → (P : Trees → Type 0) → ((ys : Trees) → P (g .pre ys)) → P (treesOf (shapeOf t))
+all-left t p g r P h = by (treesAt t (g .k) p) (g .whole)
+  where
+    by : (y : Result (Found Trees)) → shapeOf t ≡ andThen y (λ ys q. ok (found (g .pre ys) q)) → P (treesOf (shapeOf t))
+    by (ok (found ys q)) e = rw e (h ys)
+    by (refused b a) e = absurd (subst Right e r)
+
+-- the tree at p is right
+abbrev Here : List ℕ → ℕ → Result (Found Tree) → Type 0
+Here t p y = Right y × (costed t (treeOf y) p ≡ ok tt)
+
 paging-step : (t : List ℕ) (w : ℕ) (o : List ℕ) (k p : ℕ) → Paging t w o k p → p < length t → Right (tableOf t)
-    → Right (treeAt t depthLimit p) × Paging t w (o ++ node t w p) (k + seen w 0 0 (treeOf (treeAt t depthLimit p))) (nextOf (treeAt t depthLimit p))
+    → Here t p (treeAt t depthLimit p) × Paging t w (o ++ node t w p) (k + seen w 0 0 (treeOf (treeAt t depthLimit p))) (nextOf (treeAt t depthLimit p))
+unfolding costed
 paging-step t w o k p g l r = by (treeAt t depthLimit p) refl
   where
     join : (a b c d : List ℕ) → a ++ (b ++ (c ++ (10 ∷ d))) ≡ (a ++ (b ++ (c ++ (10 ∷ [])))) ++ d
     join a b c d = simp append-assoc
 
-    by : (y : Result (Found Tree)) → treeAt t depthLimit p ≡ y → Right y × Paging t w (o ++ framed (ltb 0 p) w (treeOf y)) (k + seen w 0 0 (treeOf y)) (nextOf y)
+    by : (y : Result (Found Tree)) → treeAt t depthLimit p ≡ y → Here t p y × Paging t w (o ++ framed (ltb 0 p) w (treeOf y)) (k + seen w 0 0 (treeOf y)) (nextOf y)
     by (refused n a) e = absurd (subst Right (read-stop t p (g .read) n a l e) r)
     by (ok (found x q)) e =
-        let n = read-tree t p (g .read) q x l e in (
-          tt,
+        let n = read-tree t p (g .read) q x l e in
+        let z = shaped t r in
+        let both : (ys : Trees) → costedAll t (n .rest .pre ys) 0 ≡ ok tt → (costed t x p ≡ ok tt) × (costedAll t ys (p + length (records x)) ≡ ok tt) =
+        λ ys f.
+        both-right (costed t x p) (λ _. costedAll t ys (p + length (records x))) (g .costs (more x ys) (subst (λ (xs : Trees). costedAll t xs 0 ≡ ok tt) (n .pre-is ys) f)) in (
+          (tt, all-left t q (n .rest) (z .right) (λ (xs : Trees). costedAll t xs 0 ≡ ok tt → costed t x p ≡ ok tt) (λ ys f. both ys f .0) (z .costs)),
           record {
             read = n .rest;
             left =
@@ -105,13 +140,15 @@ paging-step t w o k p g l r = by (treeAt t depthLimit p) refl
                 ∙ join o (between (ltb 0 p)) (laid w 0 0 x) (pageFrom true ys w)
                 ∙ ap (λ (b : Bool). (o ++ framed (ltb 0 p) w x) ++ pageFrom b ys w) (sym (lt-ltb 0 q (omega (arith, n .past))));
             counted = λ ys. ap (λ (xs : Trees). pageLooked xs w) (n .pre-is ys) ∙ g .counted (more x ys) ∙ omega (arith, more-looked x ys w);
+            costs = λ ys f. subst⁻¹ (λ (j : ℕ). costedAll t ys j ≡ ok tt) (tree-span t depthLimit p q x (g .read .within) e .0) (both ys f .1);
           },
         )
 
-paging-end : (t : List ℕ) (w : ℕ) (o : List ℕ) (k p : ℕ) → Paging t w o k p → length t ≤ p → (page (treesOf (tableOf t)) w ≡ o) × (pageLooked (treesOf (tableOf t)) w ≡ k)
+paging-end : (t : List ℕ) (w : ℕ) (o : List ℕ) (k p : ℕ) → Paging t w o k p → Right (tableOf t) → length t ≤ p
+    → (page (treesOf (tableOf t)) w ≡ o) × (pageLooked (treesOf (tableOf t)) w ≡ k)
 unfolding pageFrom pageLooked
-paging-end t w o k p g l =
-    let e = read-end t p (g .read) l in (
+paging-end t w o k p g r l =
+    let e = shaped t r .same ∙ read-end t p (g .read) l in (
       ap (λ (y : Result (Found Trees)). page (treesOf y) w) e ∙ g .left none ∙ append-nil o,
       ap (λ (y : Result (Found Trees)). pageLooked (treesOf y) w) e ∙ g .counted none ∙ omega arith,
     )
@@ -123,12 +160,12 @@ pub record Pages (t : List ℕ) (w : ℕ) (b₀ b : List ℕ) (n k p : ℕ) : Ty
   pub right : Right (tableOf t)
   pub held : Puts o n b₀ b
   pub small : n ≤ 128 * p
-  pub few : k ≤ depthLimit * p
+  pub few : k ≤ p
   pub kept : length b ≡ length b₀
 
 short : (t : List ℕ) → Right (tableOf t) → length t ≤ tableLimit
-unfolding tableOf
-short t r = by (ltb tableLimit (length t)) refl r
+unfolding shapeOf
+short t r = by (ltb tableLimit (length t)) refl (shaped t r .right)
   where
     by : (b : Bool) → ltb tableLimit (length t) ≡ b → Right (cond b (refused tooLong tableLimit) (treesAt t (length t + 1) 0)) → length t ≤ tableLimit
     by true e k = absurd k
@@ -137,7 +174,7 @@ short t r = by (ltb tableLimit (length t)) refl r
 pub pages-begin : (t : List ℕ) (w : ℕ) (b : List ℕ) → Right (tableOf t) → Pages t w b b 0 0 0
 pages-begin t w b r = record {
   o = [];
-  paging = record { read = read-begin t (short t r); left = λ ys. refl; counted = λ ys. omega arith };
+  paging = record { read = read-begin t (short t r); left = λ ys. refl; counted = λ ys. omega arith; costs = λ ys e. e };
   right = r;
   held = (refl, λ l. refl);
   small = omega arith;
@@ -147,7 +184,7 @@ pages-begin t w b r = record {
 
 module _ {t : List ℕ} {w : ℕ} {b₀ b : List ℕ} {n k p : ℕ} (h : Pages t w b₀ b n k p) where
   step : p < length t
-      → Right (treeAt t depthLimit p) × Paging t w (h .o ++ node t w p) (k + seen w 0 0 (treeOf (treeAt t depthLimit p))) (nextOf (treeAt t depthLimit p))
+      → Here t p (treeAt t depthLimit p) × Paging t w (h .o ++ node t w p) (k + seen w 0 0 (treeOf (treeAt t depthLimit p))) (nextOf (treeAt t depthLimit p))
   step l = paging-step t w (h .o) k p (h .paging) l (h .right)
 
   pub pages-within : p ≤ length t
@@ -157,13 +194,16 @@ module _ {t : List ℕ} {w : ℕ} {b₀ b : List ℕ} {n k p : ℕ} (h : Pages t
   pages-limit = h .paging .read .limit
 
   pub pages-tree : p < length t → Right (treeAt t depthLimit p)
-  pages-tree l = step l .0
+  pages-tree l = step l .0 .0
+
+  pub pages-cost : p < length t → costed t (treeOf (treeAt t depthLimit p)) p ≡ ok tt
+  pages-cost l = step l .0 .1
 
   pub pages-step : p < length t → (q l x r : ℕ) (ys : List ℕ) → Written (framed (ltb 0 p) w) (treeAt t depthLimit p) q l (take (length b - r) (drop r b)) ys
       × (x ≡ seen w 0 0 (treeOf (treeAt t depthLimit p)))
       → (length (laid w 0 0 (treeOf (treeAt t depthLimit p))) + 300 ≤ 128 * (nextOf (treeAt t depthLimit p) - p)) × (p < nextOf (treeAt t depthLimit p))
       × (nextOf (treeAt t depthLimit p) ≤ length t)
-      → seen w 0 0 (treeOf (treeAt t depthLimit p)) ≤ depthLimit * (nextOf (treeAt t depthLimit p) - p)
+      → seen w 0 0 (treeOf (treeAt t depthLimit p)) ≤ nextOf (treeAt t depthLimit p) - p
       → (n ≤ length b → r ≡ n) → length (putMid r (length b - r) b ys) ≡ length b
       → Pages t w b₀ (putMid r (length b - r) b ys) (n + l) (k + x) q
   pages-step lt q l x r ys g s m er lk =
@@ -180,7 +220,7 @@ module _ {t : List ℕ} {w : ℕ} {b₀ b : List ℕ} {n k p : ℕ} (h : Pages t
       }
 
   pub pages-end : length t ≤ p → Filled (page (treesOf (tableOf t)) w) b₀ b × (k ≡ pageLooked (treesOf (tableOf t)) w)
-  pages-end l = let e = paging-end t w (h .o) k p (h .paging) l in (subst⁻¹ (λ (o : List ℕ). Filled o b₀ b) (e .0) (h .held .1), sym (e .1))
+  pages-end l = let e = paging-end t w (h .o) k p (h .paging) (h .right) l in (subst⁻¹ (λ (o : List ℕ). Filled o b₀ b) (e .0) (h .held .1), sym (e .1))
 
 -- ---- the answer
 

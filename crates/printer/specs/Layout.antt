@@ -5,19 +5,7 @@ use mathlib.Core.List.{List, [], _∷_, _++_}
 use lib.ListN.{length, replicate}
 use lib.Dec.{leb}
 use Rattle.wide.specs.Text.{integerText}
-use Rattle.table.specs.Trees.{Tree, Trees, symbol, integer, binding, list, none, more, count}
-
--- costs add over the subtree: atom its length; binding name plus 3; list items plus 1
-unfoldable mutual
-  pub cost : Tree → ℕ
-  cost (symbol n) = length n
-  cost (integer z) = length (integerText z)
-  cost (binding n x) = length n + 3 + cost x
-  cost (list xs) = count xs + 1 + costs xs
-
-  pub costs : Trees → ℕ
-  costs none = 0
-  costs (more x xs) = cost x + costs xs
+use Rattle.table.specs.Trees.{Tree, Trees, symbol, integer, binding, list, none, more, cost}
 
 -- bytes put, and the column after them
 pub data Put : Type 0 where

@@ -3,6 +3,5 @@ pub mod Looking
 pub mod Printing
 pub mod PrivateTrees
 pub mod Fitting
-pub mod PrivateFitting
 pub mod PrivateMeasuring
 pub mod PrivateWriting

@@ -1,46 +1,19 @@
--- How many records the fits test looks at (document 02, 3/12): in one test, over the layout of a tree, and over a page. THEOREM looked-bound.
-use Prim.Native.Nat.{ℕ, _+_, _*_, _-_, _≤_}
-use mathlib.Core.Path.{_≡_}
+-- How many records the fits test looks at (document 02, 3/12 and 7/12): in one test, over the layout of a tree, and over a page. THEOREM looked-bound.
+use Prim.Native.Nat.{ℕ, _+_, _≤_}
 use mathlib.Core.Bool.{Bool, true, false, cond}
-use mathlib.Core.List.{List, [], _∷_, _++_}
 use lib.ListN.{length}
-use lib.Dec.{leb, ltb}
-use Rattle.refusals.specs.Numbers.{depthLimit}
-use Rattle.refusals.specs.Result.{ok}
-use Rattle.wide.specs.Bytes.{Bytes}
-use Rattle.wide.specs.Text.{integerText}
-use Rattle.table.specs.Trees.{Tree, Trees, symbol, integer, binding, list, none, more, count}
-use Rattle.table.specs.Decoding.{found, tableOf}
+use lib.Dec.{leb}
+use Rattle.table.specs.Trees.{Tree, Trees, symbol, integer, binding, list, none, more}
 use Rattle.printer.specs.Layout.{Wrapping, Wrap, SingleLine, column, named, gap, inner, wrapped, lay}
 
--- each record's own share of the cost, in preorder: an atom its length; a binding its name plus 3; a list its item count plus 1
-unfoldable mutual
-  pub shares : Tree → List ℕ
-  shares (symbol n) = length n ∷ []
-  shares (integer z) = length (integerText z) ∷ []
-  shares (binding n x) = (length n + 3) ∷ shares x
-  shares (list xs) = (count xs + 1) ∷ sharesOf xs
-
-  pub sharesOf : Trees → List ℕ
-  sharesOf none = []
-  sharesOf (more x xs) = shares x ++ sharesOf xs
-
--- up to and including the one that takes the sum above what is left, or all
-unfoldable pub upTo : List ℕ → ℕ → ℕ
-upTo [] rest = 0
-upTo (k ∷ ks) rest = cond (ltb rest k) 1 (upTo ks (rest - k) + 1)
-
--- a tree tested at column c: against width minus column, and none if the column is past the width
-unfoldable pub looksIn : ℕ → ℕ → List ℕ → ℕ
-looksIn w c ks = cond (leb c w) (upTo ks (w - c)) 0
-
-abbrev pub looks : ℕ → ℕ → Tree → ℕ
-looks w c x = looksIn w c (shares x)
+-- a list tested at column c: its own record, which stores its cost, and none if the column is past the width
+unfoldable pub looks : ℕ → ℕ → ℕ
+looks w c = cond (leb c w) 1 0
 
 -- a list is tested unless it is inside one that fitted
-abbrev pub tests : Wrapping → ℕ → ℕ → Tree → ℕ
-tests SingleLine w c x = 0
-tests Wrap w c x = looks w c x
+abbrev pub tests : Wrapping → ℕ → ℕ → ℕ
+tests SingleLine w c = 0
+tests Wrap w c = looks w c
 
 -- over the layout of a tree, at the columns and indents that the layout has
 unfoldable mutual
@@ -48,7 +21,7 @@ unfoldable mutual
   looked (symbol n) m w i c = 0
   looked (integer z) m w i c = 0
   looked (binding n x) m w i c = looked x m w i (c + length (named n))
-  looked (list xs) m w i c = tests m w c (list xs) + lookedOf xs true (wrapped m w c (list xs)) w i (c + 1)
+  looked (list xs) m w i c = tests m w c + lookedOf xs true (wrapped m w c (list xs)) w i (c + 1)
 
   pub lookedOf : Trees → Bool → Wrapping → ℕ → ℕ → ℕ → ℕ
   lookedOf none first m w i c = 0
@@ -61,18 +34,18 @@ unfoldable pub pageLooked : Trees → ℕ → ℕ
 pageLooked none w = 0
 pageLooked (more x xs) w = looked x Wrap w 0 0 + pageLooked xs w
 
--- the records of a tree, and of trees: one a node
+-- the lists in a tree, and in trees
 unfoldable mutual
-  pub nodes : Tree → ℕ
-  nodes (symbol n) = 1
-  nodes (integer z) = 1
-  nodes (binding n x) = nodes x + 1
-  nodes (list xs) = nodesOf xs + 1
+  pub lists : Tree → ℕ
+  lists (symbol n) = 0
+  lists (integer z) = 0
+  lists (binding n x) = lists x
+  lists (list xs) = listsOf xs + 1
 
-  pub nodesOf : Trees → ℕ
-  nodesOf none = 0
-  nodesOf (more x xs) = nodes x + nodesOf xs
+  pub listsOf : Trees → ℕ
+  listsOf none = 0
+  listsOf (more x xs) = lists x + listsOf xs
 
--- at most 64 times the records in the table
+-- at most the lists in the table
 abbrev pub LookedBound : Type 0
-LookedBound = (t : List ℕ) (w : ℕ) (xs : Trees) (q : ℕ) → Bytes t → tableOf t ≡ ok (found xs q) → pageLooked xs w ≤ depthLimit * nodesOf xs
+LookedBound = (xs : Trees) (w : ℕ) → pageLooked xs w ≤ listsOf xs

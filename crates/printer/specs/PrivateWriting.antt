@@ -5,10 +5,11 @@ use mathlib.Core.Bool.{Bool, true, false, cond}
 use mathlib.Core.List.{List, [], _∷_, _++_}
 use lib.ListN.{length}
 use Rattle.refusals.specs.Numbers.{tableLimit, depthLimit}
-use Rattle.refusals.specs.Result.{Result}
+use Rattle.refusals.specs.Result.{Result, ok}
 use Rattle.lists.specs.Rooms.{Puts}
 use Rattle.wide.specs.Text.{integerText}
 use Rattle.table.specs.Trees.{Tree, Trees, symbol, integer, binding, list, none, more}
+use Rattle.table.specs.Costs.{costed}
 use Rattle.table.specs.Decoding.{Found, treeAt}
 use Rattle.printer.specs.Layout.{Wrap, bytes, nl, named, lay}
 use Rattle.printer.specs.Looking.{looked}
@@ -42,11 +43,11 @@ laid w i c x = bytes (lay x Wrap w i c)
 abbrev pub seen : ℕ → ℕ → ℕ → Tree → ℕ
 seen w i c x = looked x Wrap w i c
 
--- where a tree may be laid: in a checked table, and the numbers are small
+-- where a tree may be laid: in a checked table, so that the costs in it are right, and the numbers are small
 abbrev pub Ready : List ℕ → ℕ → ℕ → ℕ → ℕ → ℕ → Type 0
 Ready t d at w i c =
     (at ≤ length t) × (length t ≤ tableLimit) × (i + d ≤ depthLimit) × Right (treeAt t d at)
-    × (c + length (laid w i c (treeOf (treeAt t d at))) ≤ 4294967296)
+    × (c + length (laid w i c (treeOf (treeAt t d at))) ≤ 4294967296) × (costed t (treeOf (treeAt t d at)) at ≡ ok tt)
 
 -- a tree and its LF, behind the LF between it and one before it
 abbrev pub framed : Bool → ℕ → Tree → List ℕ

@@ -14,6 +14,8 @@ ghost use Prim.Native.Nat.{_≤_};
 ghost use lib.Dec.{ltb};
 ghost use lib.ListN.{length};
 ghost use Rattle.refusals.specs.Numbers.{tableLimit, depthLimit};
+ghost use Rattle.refusals.specs.Result.{ok};
+ghost use Rattle.table.specs.Costs.{costed};
 ghost use Rattle.table.specs.Decoding.{treeAt, tableOf};
 ghost use Rattle.printer.specs.Layout.{page};
 ghost use Rattle.printer.specs.Looking.{pageLooked};
@@ -137,7 +139,8 @@ fn print_wrapped(
 
 // A tree and its LF, and the LF between it and one before it.
 fn print_node(t: &[u8], at: usize, width: u32, out: &mut [u8]) -> Laid
-    requires { ⌜ (at ≤ length (now t)) × (length (now t) ≤ tableLimit) × Right (treeAt (now t) depthLimit at) ⌝ }
+    requires { ⌜ (at ≤ length (now t)) × (length (now t) ≤ tableLimit) × Right (treeAt (now t) depthLimit at)
+        × (costed (now t) (treeOf (treeAt (now t) depthLimit at)) at ≡ ok tt) ⌝ }
     ensures { λ r. ⌜ Written (framed (ltb 0 at) width) (treeAt (now (t .entry)) depthLimit at) (r .next) (r .len) (now (out .entry)) (now (out .exit))
         × (r .looked ≡ seen width 0 0 (treeOf (treeAt (now (t .entry)) depthLimit at))) ⌝ }
 {

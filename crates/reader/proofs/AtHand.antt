@@ -1,5 +1,5 @@
 -- The token at hand as the code has it, and what it begins: a law for each arm of the routine for a tree. Assumes nothing.
-use Prim.Native.Nat.{ℕ, suc, _+_, _-_, _≤_, _<_}
+use Prim.Native.Nat.{ℕ, suc, _+_, _*_, _-_, _≤_, _<_}
 use mathlib.Core.Path.{_≡_, refl, sym, ap, subst, subst⁻¹, _∙_}
 use mathlib.Core.Bool.{Bool, true, false}
 use mathlib.Core.List.{List, [], _++_, append-assoc, append-nil}
@@ -14,9 +14,10 @@ use Rattle.lists.specs.Over.{over, fitted}
 use Rattle.lists.proofs.Blocks.{fitted-over}
 use Rattle.lists.proofs.Writing.{part-drop, part-length}
 use Rattle.wide.specs.Bytes.{le, wideBytes}
+use Rattle.wide.specs.Text.{integerText}
 use Rattle.wide.specs.Value.{value}
 use Rattle.wide.specs.declared.Wide.{Wide}
-use Rattle.wide.proofs.Numbers.{le-length, wide-length}
+use Rattle.wide.proofs.Numbers.{wide-length}
 use Rattle.lexer.specs.declared.Token.{Token as CodeToken}
 use Rattle.lexer.specs.declared.Token.the-variants as code
 use Rattle.lexer.specs.declared.Lexed.{Lexed}
@@ -27,9 +28,10 @@ use Rattle.lexer.proofs.Within.{Shaped, within, limited}
 use Rattle.records.specs.Records.{record-of}
 use Rattle.records.proofs.Heads.{length-record}
 use Rattle.table.specs.Kinds.{integerKind, listKind, integerLen, listLen}
-use Rattle.table.specs.Trees.{Trees, integer, list, count, records, recordsOf}
+use Rattle.table.specs.Trees.{Trees, integer, list, count, cost, costs, records, recordsOf}
+use Rattle.table.proofs.Costs.{costs-le, list-size, list-records}
 use Rattle.reader.specs.Grammar.{after, One, got, closed, Many, upTo, toEnd, listed, readItems, readTree}
-use Rattle.reader.specs.PrivateWalk.{Lexes, due, TreeTold, ItemsTold, LeftKind, LeftOver}
+use Rattle.reader.specs.PrivateWalk.{Lexes, due, CostTold, TreeTold, ItemsTold, LeftKind, LeftOver}
 use Rattle.reader.specs.declared.parts.Stop.{Stop}
 use Rattle.reader.specs.declared.parts.Stop.the-variants as stop
 use Rattle.reader.proofs.Derivation.{ManyIs, items-is}
@@ -93,15 +95,17 @@ module _ (s : List ℕ) (d : ℕ) (x : Lexed) where
     pub symbol-hand : (n : ℕ) → c ≡ code.Symbol n → LeftOver true (answerOf x) → ⊥
     symbol-hand n f h = subst (LeftOver true) (hand x c p (code.Symbol n) e f) h
 
-    pub int-hand : (w : Wide) (n : ℕ) (b b′ : List ℕ) → c ≡ code.Int w n → b′ ≡ fitted (record-of integerKind (wideBytes (value w))) b
-        → TreeTold s here false 0 (p + n) integerLen b b′
-    unfolding records
-    int-hand w n b b′ f h = (
-      integer (value w),
-      by-hand (code.Int w n) f (ok (got (integer (value w)) (nextToken s (p + n)))) (read-int s d (tokenOf (code.Int w n) p) (value w) refl),
-      sym (length-record integerKind (wideBytes (value w)) ∙ omega (arith, wide-length (value w))),
-      λ l. h ∙ fitted-over (record-of integerKind (wideBytes (value w))) b l,
-    )
+    pub int-hand : (w : Wide) (n v : ℕ) (b b′ : List ℕ) → c ≡ code.Int w n → CostTold v (length (integerText (value w))) integerLen (length b)
+        → b′ ≡ fitted (record-of integerKind (wideBytes (value w))) b → TreeTold s here false 0 (p + n) integerLen v b b′
+    unfolding records cost
+    int-hand w n v b b′ f ev h =
+        let size : length (record-of integerKind (wideBytes (value w))) ≡ integerLen = length-record integerKind (wideBytes (value w)) ∙ omega (arith, wide-length (value w)) in (
+          integer (value w),
+          by-hand (code.Int w n) f (ok (got (integer (value w)) (nextToken s (p + n)))) (read-int s d (tokenOf (code.Int w n) p) (value w) refl),
+          sym size,
+          (ev .0, λ l. ev .1 (omega arith)),
+          λ l. h ∙ fitted-over (record-of integerKind (wideBytes (value w))) b l,
+        )
 
     module _ (l : Lexes s (answerOf x)) where
       pub past-hand : (k : CodeToken) → c ≡ k → (past (tokenOf k p) ≤ length s) × (length s ≤ sourceLimit)
@@ -126,9 +130,9 @@ module _ (s : List ℕ) (d : ℕ) (x : Lexed) where
             by-hand code.LParen f (andThen its (listed s (tokenOf code.LParen p))) (read-list s d (tokenOf code.LParen p) refl h)
             ∙ ap (λ (z : Result Many). andThen (andThen z (listed s (tokenOf code.LParen p))) (due s)) g
 
-        module _ (st : Stop) (m q k n : ℕ) (b₁ ys : List ℕ) (t : ItemsTold its st m q k n b₁ ys) where
-          abbrev told : (st′ : Stop) → st ≡ st′ → ItemsTold its st′ m q k n b₁ ys
-          told st′ g = subst (λ (z : Stop). ItemsTold its z m q k n b₁ ys) g t
+        module _ (st : Stop) (m q k n v : ℕ) (b₁ ys : List ℕ) (t : ItemsTold its st m q k n v b₁ ys) where
+          abbrev told : (st′ : Stop) → st ≡ st′ → ItemsTold its st′ m q k n v b₁ ys
+          told st′ g = subst (λ (z : Stop). ItemsTold its z m q k n v b₁ ys) g t
 
           pub no-items-hand : (d ≡ 0 → ⊥) → st ≡ stop.Refusal → here ≡ refused m q
           no-items-hand h g = list-hand h (refused m q) (told stop.Refusal g)
@@ -149,37 +153,44 @@ module _ (s : List ℕ) (d : ℕ) (x : Lexed) where
             items-span : SpansAll s (nextToken s (p + 1)) (ok (is u)) (count xs) (length (recordsOf xs))
             items-span = spans-all xs s (d - 1) (nextToken s (p + 1)) (ok (is u)) (record { place = p + 1; gives = refl }) (items-are .0)
 
-            pub items-small : (q + 1 ≤ sourceLimit + 1) × (n ≤ tableLimit)
+            pub items-small : (q + 1 ≤ sourceLimit + 1) × (n ≤ tableLimit) × (k + v ≤ 2 * tableLimit)
             items-small =
                 let w = told stop.Close g in
                 let r = items-span .lexes in
                 let z = limited s (r .place) u (r .gives) in
-                (omega (arith, w .3, z, past-top s u r), omega (arith, w .5, items-span .size, z, weigh-top s (ok (is u)) r))
+                let top : n ≤ tableLimit = omega (arith, w .5, items-span .size, z, weigh-top s (ok (is u)) r) in
+                (omega (arith, w .3, z, past-top s u r), top, omega (arith, w .4, w .5, w .6 .0, costs-le xs))
 
             -- a `)` has one byte
             one-byte : u .size ≡ 1
             one-byte = subst (Shaped s (u .start) (u .size)) (items-are .1) (within s (items-span .lexes .place) u (items-span .lexes .gives) .shaped)
 
-            pub listed-hand : (d ≡ 0 → ⊥) → (b b′ : List ℕ) (r : ℕ) → b₁ ≡ take (length b - r) (drop r b) → (listLen ≤ length b → r ≡ listLen)
-                → length (putMid r (length b - r) b ys) ≡ length b → b′ ≡ fitted (record-of listKind (le 4 k)) (putMid r (length b - r) b ys)
-                → TreeTold s here false 0 (q + 1) (n + listLen) b b′
-            unfolding records
-            listed-hand h b b′ r eb er el e′ =
+            pub listed-hand : (d ≡ 0 → ⊥) → (b b′ : List ℕ) (r i : ℕ) → b₁ ≡ take (length b - r) (drop r b) → (listLen ≤ length b → r ≡ listLen)
+                → length (putMid r (length b - r) b ys) ≡ length b → b′ ≡ fitted (record-of listKind (le 4 k ++ le 4 i)) (putMid r (length b - r) b ys) → i ≡ k + 1 + v
+                → TreeTold s here false 0 (q + 1) (n + listLen) i b b′
+            unfolding records cost
+            listed-hand h b b′ r i eb er el e′ ei =
                 let w = told stop.Close g in
-                let H : List ℕ = record-of listKind (le 4 (count xs)) in
-                let size : length H ≡ listLen = length-record listKind (le 4 (count xs)) ∙ omega (arith, le-length 4 (count xs)) in
-                let all : length (H ++ recordsOf xs) ≡ listLen + length (recordsOf xs) = length-append H (recordsOf xs) ∙ ap (λ (i : ℕ). i + length (recordsOf xs)) size in
+                let H : List ℕ = record-of listKind (le 4 (count xs) ++ le 4 (cost (list xs))) in
+                let size : length H ≡ listLen = list-size (count xs) (cost (list xs)) in
+                let all : length (H ++ recordsOf xs) ≡ listLen + length (recordsOf xs) = list-records xs in
+                let there : listLen + length (recordsOf xs) ≤ length b → r ≡ listLen = λ l. er (omega arith) in
+                let inside : listLen + length (recordsOf xs) ≤ length b → length (recordsOf xs) ≤ length b₁ =
+                λ l. let er′ : r ≡ listLen = there l in let part : length b₁ ≡ length b - r = ap length eb ∙ part-length r b in omega arith in
+                let costly : listLen + length (recordsOf xs) ≤ length b → i ≡ cost (list xs) = λ l. let ev : v ≡ costs xs = w .6 .1 (inside l) in omega (arith, w .4) in
                 let next : after s u ≡ nextToken s (q + 1) = ap (nextToken s) (omega (arith, w .3, one-byte)) in (
                   list xs,
                   list-hand h (ok (upTo xs u)) (w .2) ∙ ap (λ (a : Answer). ok (got (list xs) a)) next,
                   omega (arith, w .5, all),
+                  (omega (arith, w .4, w .6 .0), λ big. costly (omega (arith, all))),
                   λ big.
-                      let er′ : r ≡ listLen = er (omega (arith, all)) in
-                      let part : length b₁ ≡ length b - listLen = ap length eb ∙ part-length r b ∙ ap (λ (i : ℕ). length b - i) er′ in
+                      let fits : listLen + length (recordsOf xs) ≤ length b = omega (arith, all) in
+                      let er′ : r ≡ listLen = there fits in
                       let ey : ys ≡ over (recordsOf xs) (take (length b - listLen) (drop listLen b)) =
-                      w .6 (omega (arith, all, part)) ∙ ap (over (recordsOf xs)) (eb ∙ ap (λ (i : ℕ). take (length b - i) (drop i b)) er′) in
+                      w .7 (inside fits) ∙ ap (over (recordsOf xs)) (eb ∙ ap (λ (i : ℕ). take (length b - i) (drop i b)) er′) in
                       let hb : b′ ≡ over H (putMid listLen (length b - listLen) b ys) =
-                      e′ ∙ ap (λ (i : ℕ). fitted (record-of listKind (le 4 i)) (putMid r (length b - r) b ys)) (w .4)
+                      e′ ∙ ap (λ (j : ℕ). fitted (record-of listKind (le 4 j ++ le 4 i)) (putMid r (length b - r) b ys)) (w .4)
+                      ∙ ap (λ (j : ℕ). fitted (record-of listKind (le 4 (count xs) ++ le 4 j)) (putMid r (length b - r) b ys)) (costly fits)
                       ∙ fitted-over H (putMid r (length b - r) b ys) (omega (arith, size, el, all)) ∙ ap (λ (i : ℕ). over H (putMid i (length b - i) b ys)) er′ in
                       front H (recordsOf xs) b ys b′ listLen size (omega (arith, all)) ey hb,
                 )

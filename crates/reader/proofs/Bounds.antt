@@ -10,11 +10,12 @@ use Rattle.refusals.specs.Numbers.{sourceLimit}
 use Rattle.refusals.specs.Result.{ok, refused}
 use Rattle.lexer.specs.Tokens.{Kind, lparen, rparen, at-sign, symbol, int, Token, past, Answer, end, is}
 use Rattle.lexer.proofs.Within.{Lies, within, limited, apart}
-use Rattle.wide.specs.Bytes.{le, wideBytes}
-use Rattle.wide.proofs.Numbers.{le-length, wide-length}
+use Rattle.wide.specs.Bytes.{wideBytes}
+use Rattle.wide.proofs.Numbers.{wide-length}
 use Rattle.records.specs.Records.{headLen, record-of}
-use Rattle.table.specs.Kinds.{symbolKind, integerKind, bindingKind, listKind, integerLen, listLen}
+use Rattle.table.specs.Kinds.{symbolKind, integerKind, bindingKind, integerLen}
 use Rattle.table.specs.Trees.{Tree, Trees, symbol as symbolTree, integer, binding, list, none, more, count, records, recordsOf}
+use Rattle.table.proofs.Costs.{list-records}
 use Rattle.records.proofs.Heads.{length-record}
 use Rattle.reader.specs.Grammar.{nameOf, after}
 use Rattle.reader.specs.PrivateWalk.{Lexes}
@@ -182,19 +183,15 @@ binding-spans s t u x b h e w =
 
 list-spans : (s : List ℕ) (t u : Token) (xs : Trees) → Lexes s (ok (is t)) → SpansAll s (after s t) (ok (is u)) (count xs) (length (recordsOf xs))
     → Spans s (ok (is t)) (after s u) (length (records (list xs)))
-unfolding records
 list-spans s t u xs h w =
     let o = after-lies s t h in
     let q = after-lies s u (w .lexes) in
-    let m : length (record-of listKind (le 4 (count xs))) ≡ listLen = length-record listKind (le 4 (count xs)) ∙ ap (λ (k : ℕ). k + headLen) (le-length 4 (count xs)) in
-    let n : length (record-of listKind (le 4 (count xs)) ++ recordsOf xs) ≡ listLen + length (recordsOf xs) =
-    length-append (record-of listKind (le 4 (count xs))) (recordsOf xs) ∙ ap (λ (k : ℕ). k + length (recordsOf xs)) m in
     record {
       lexes = next-of s u;
       on = omega (arith, o .some, o .to, q .some, q .to, w .on);
       top = q .top;
       small = o .small;
-      size = omega (arith, o .weighs, o .some, q .weighs, q .some, w .size);
+      size = omega (arith, o .weighs, o .some, q .weighs, q .some, w .size, list-records xs);
     }
 
 mutual

@@ -1,4 +1,4 @@
--- Document 01, 'Worked by hand': the reading cases marked P, and others that fix the order of the refusals.
+-- Document 01, 'Worked by hand' (`x @ (a)` as document 02, 7/12, has it): the reading cases marked P, and others that fix the order of the refusals.
 use Prim.Native.Nat.{ℕ}
 use mathlib.Core.Path.{_≡_, refl}
 use mathlib.Core.List.{List, [], _∷_, _++_, map}
@@ -10,7 +10,7 @@ use Rattle.wide.specs.Bytes.{le}
 use Rattle.lexer.specs.Literals.{taken, grow, reading as digitsRead, literalEnd, radixOf, concluded, unsignedIn}
 use Rattle.lexer.specs.Lexing.{skip, symbolEnd, lexIn, nextToken}
 use Rattle.records.specs.Records.{record-of}
-use Rattle.table.specs.Trees.{records}
+use Rattle.table.specs.Trees.{cost, records}
 use Rattle.reader.specs.Grammar.{readItems, readTree, fileOf}
 use Rattle.reader.specs.Reading.{reading, readInto}
 
@@ -35,14 +35,14 @@ abbrev run : Case → Answered
 run c = record { answer = reading (c .source) (c .size); room = readInto (c .source) (replicate (c .size) 0) }
 
 abbrev boundTable : List ℕ
-boundTable = 7 ∷ 0 ∷ 0 ∷ 0 ∷ 3 ∷ 0 ∷ 120 ∷ 10 ∷ 0 ∷ 0 ∷ 0 ∷ 4 ∷ 0 ∷ 1 ∷ 0 ∷ 0 ∷ 0 ∷ 7 ∷ 0 ∷ 0 ∷ 0 ∷ 1 ∷ 0 ∷ 97 ∷ []
+boundTable = 7 ∷ 0 ∷ 0 ∷ 0 ∷ 3 ∷ 0 ∷ 120 ∷ 14 ∷ 0 ∷ 0 ∷ 0 ∷ 5 ∷ 0 ∷ 1 ∷ 0 ∷ 0 ∷ 0 ∷ 3 ∷ 0 ∷ 0 ∷ 0 ∷ 7 ∷ 0 ∷ 0 ∷ 0 ∷ 1 ∷ 0 ∷ 97 ∷ []
 
 unfoldable pub cases : List Case
 cases =
-    -- `x @ (a)` into rooms of 30, 24 and 23 bytes
-    case (120 ∷ 32 ∷ 64 ∷ 32 ∷ 40 ∷ 97 ∷ 41 ∷ []) 30 (ok 24) (boundTable ++ replicate 6 0)
-    ∷ case (120 ∷ 32 ∷ 64 ∷ 32 ∷ 40 ∷ 97 ∷ 41 ∷ []) 24 (ok 24) boundTable
-    ∷ case (120 ∷ 32 ∷ 64 ∷ 32 ∷ 40 ∷ 97 ∷ 41 ∷ []) 23 (refused 14 24) (replicate 23 0)
+    -- `x @ (a)` into rooms of 30, 28 and 27 bytes
+    case (120 ∷ 32 ∷ 64 ∷ 32 ∷ 40 ∷ 97 ∷ 41 ∷ []) 30 (ok 28) (boundTable ++ replicate 2 0)
+    ∷ case (120 ∷ 32 ∷ 64 ∷ 32 ∷ 40 ∷ 97 ∷ 41 ∷ []) 28 (ok 28) boundTable
+    ∷ case (120 ∷ 32 ∷ 64 ∷ 32 ∷ 40 ∷ 97 ∷ 41 ∷ []) 27 (refused 14 28) (replicate 27 0)
     -- the empty source, `a @ b @ c`, `x (;;) @ y`
     ∷ case [] 0 (ok 0) []
     ∷ case (97 ∷ 32 ∷ 64 ∷ 32 ∷ 98 ∷ 32 ∷ 64 ∷ 32 ∷ 99 ∷ []) 0 (refused 14 21) []
@@ -65,5 +65,5 @@ cases =
     ∷ []
 
 pub worked : map run cases ≡ map (λ (c : Case). c .answered) cases
-unfolding cases reading readInto fileOf readItems readTree records record-of le nextToken lexIn skip symbolEnd classOf literalByte digitOf taken grow digitsRead literalEnd radixOf concluded unsignedIn val grown integerOf
+unfolding cases reading readInto fileOf readItems readTree cost records record-of le nextToken lexIn skip symbolEnd classOf literalByte digitOf taken grow digitsRead literalEnd radixOf concluded unsignedIn val grown integerOf
 worked = refl

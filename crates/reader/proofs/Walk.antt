@@ -13,6 +13,7 @@ use Rattle.refusals.specs.Numbers.{sourceLimit, tableLimit, tooDeep}
 use Rattle.refusals.specs.Result.{Result, ok, refused, andThen}
 use Rattle.lists.specs.Over.{over}
 use Rattle.lists.proofs.Rooms.{puts-both}
+use Rattle.lists.proofs.Writing.{part-length}
 use Rattle.classes.specs.Classes.{classOf, atSign}
 use Rattle.lexer.specs.Tokens.{Kind, lparen, rparen, at-sign, symbol, int, token, Answer, end, is}
 use Rattle.lexer.specs.Lexing.{nextToken}
@@ -23,10 +24,11 @@ use Rattle.lexer.proofs.Within.{limited}
 use Rattle.records.specs.Records.{headLen, record-of}
 use Rattle.records.proofs.Heads.{length-record}
 use Rattle.table.specs.Kinds.{symbolKind, bindingKind}
-use Rattle.table.specs.Trees.{Tree, Trees, symbol as symbolTree, count, records, recordsOf}
+use Rattle.table.specs.Trees.{Tree, Trees, symbol as symbolTree, count, cost, costs, records, recordsOf}
+use Rattle.table.proofs.Costs.{cost-le}
 use Rattle.reader.specs.Grammar.{One, got, closed, ended, Many, upTo, toEnd, cons, onward, bound, nameOf, after, readItems, readTree}
 use Rattle.lists.specs.Rooms.{Filled, Puts}
-use Rattle.reader.specs.PrivateWalk.{Lexes, due, FilledFrom, TreeTold, ItemsTold, LeftKind, LeftOver, Seen}
+use Rattle.reader.specs.PrivateWalk.{Lexes, due, CostTold, FilledFrom, TreeTold, ItemsTold, LeftKind, LeftOver, Seen}
 use Rattle.reader.specs.declared.parts.Look.{Look}
 use Rattle.reader.specs.declared.parts.Stop.the-variants as stop
 use Rattle.reader.proofs.Derivation.{OneIs, tree-is}
@@ -39,45 +41,52 @@ sign-told r v b k e f g = sym (ap (λ (n : ℕ). atSign (classOf n)) e) ∙ sym 
 
 -- ---- what is left
 
--- of the whole w, k trees whose records are o stand before y
-abbrev Before : ℕ → List ℕ → Result Many → Result Many → Type 0
-Before k o w (ok (upTo xs t)) = (ys : Trees) × (w ≡ ok (upTo ys t)) × (count ys ≡ k + count xs) × (recordsOf ys ≡ o ++ recordsOf xs)
-Before k o w (ok (toEnd xs)) = (ys : Trees) × (w ≡ ok (toEnd ys)) × (count ys ≡ k + count xs) × (recordsOf ys ≡ o ++ recordsOf xs)
-Before k o w (refused m p) = w ≡ refused m p
+-- of the whole w, k trees whose records are o and whose costs come to v stand before y
+abbrev Before : ℕ → List ℕ → ℕ → Result Many → Result Many → Type 0
+Before k o v w (ok (upTo xs t)) =
+    (ys : Trees) × (w ≡ ok (upTo ys t)) × (count ys ≡ k + count xs) × (recordsOf ys ≡ o ++ recordsOf xs) × (costs ys ≡ v + costs xs)
+Before k o v w (ok (toEnd xs)) =
+    (ys : Trees) × (w ≡ ok (toEnd ys)) × (count ys ≡ k + count xs) × (recordsOf ys ≡ o ++ recordsOf xs) × (costs ys ≡ v + costs xs)
+Before k o v w (refused m p) = w ≡ refused m p
 
-before-all : (w : Result Many) → Before 0 [] w w
-before-all (ok (upTo xs t)) = (xs, refl, omega arith, refl)
-before-all (ok (toEnd xs)) = (xs, refl, omega arith, refl)
+before-all : (w : Result Many) → Before 0 [] 0 w w
+before-all (ok (upTo xs t)) = (xs, refl, omega arith, refl, omega arith)
+before-all (ok (toEnd xs)) = (xs, refl, omega arith, refl, omega arith)
 before-all (refused m p) = refl
 
-before-more : (k : ℕ) (o : List ℕ) (w : Result Many) (x : Tree) (y : Result Many) → Before k o w (andThen y (cons x)) → Before (k + 1) (o ++ records x) w y
-unfolding records
-before-more k o w x (ok (upTo xs t)) h = (h .0, h .1, omega (arith, h .2), h .3 ∙ sym (append-assoc o (records x) (recordsOf xs)))
-before-more k o w x (ok (toEnd xs)) h = (h .0, h .1, omega (arith, h .2), h .3 ∙ sym (append-assoc o (records x) (recordsOf xs)))
-before-more k o w x (refused m p) h = h
+before-more : (k : ℕ) (o : List ℕ) (v : ℕ) (w : Result Many) (x : Tree) (y : Result Many) → Before k o v w (andThen y (cons x))
+    → Before (k + 1) (o ++ records x) (v + cost x) w y
+unfolding records cost
+before-more k o v w x (ok (upTo xs t)) h =
+    (h .0, h .1, omega (arith, h .2), h .3 ∙ sym (append-assoc o (records x) (recordsOf xs)), omega (arith, h .4))
+before-more k o v w x (ok (toEnd xs)) h =
+    (h .0, h .1, omega (arith, h .2), h .3 ∙ sym (append-assoc o (records x) (recordsOf xs)), omega (arith, h .4))
+before-more k o v w x (refused m p) h = h
 
--- the same, where y begins with the token at hand and f reads on behind it; o may end with the names of bindings whose tree y is
-abbrev Left : ℕ → List ℕ → Result Many → (Answer → Result Many) → Result One → Type 0
-Left k o w f (ok (got x a)) = Before (k + 1) (o ++ records x) w (f a)
-Left k o w f (ok (closed t)) = (ys : Trees) × (w ≡ ok (upTo ys t)) × (count ys ≡ k) × (recordsOf ys ≡ o)
-Left k o w f (ok ended) = (ys : Trees) × (w ≡ ok (toEnd ys)) × (recordsOf ys ≡ o)
-Left k o w f (refused m p) = w ≡ refused m p
+-- the same, where y begins with the token at hand and f reads on behind it; o may end with the names of bindings whose tree y is, and v count them
+abbrev Left : ℕ → List ℕ → ℕ → Result Many → (Answer → Result Many) → Result One → Type 0
+Left k o v w f (ok (got x a)) = Before (k + 1) (o ++ records x) (v + cost x) w (f a)
+Left k o v w f (ok (closed t)) = (ys : Trees) × (w ≡ ok (upTo ys t)) × (count ys ≡ k) × (recordsOf ys ≡ o) × (costs ys ≡ v)
+Left k o v w f (ok ended) = (ys : Trees) × (w ≡ ok (toEnd ys)) × (recordsOf ys ≡ o) × (costs ys ≡ v)
+Left k o v w f (refused m p) = w ≡ refused m p
 
-left-of : (k : ℕ) (o : List ℕ) (w : Result Many) (f : Answer → Result Many) (y : Result One) → Before k o w (andThen y (onward f)) → Left k o w f y
-unfolding records
-left-of k o w f (ok (got x a)) h = before-more k o w x (f a) h
-left-of k o w f (ok (closed t)) h = (h .0, h .1, omega (arith, h .2), h .3 ∙ append-nil o)
-left-of k o w f (ok ended) h = (h .0, h .1, h .3 ∙ append-nil o)
-left-of k o w f (refused m p) h = h
+left-of : (k : ℕ) (o : List ℕ) (v : ℕ) (w : Result Many) (f : Answer → Result Many) (y : Result One) → Before k o v w (andThen y (onward f)) → Left k o v w f y
+unfolding records cost
+left-of k o v w f (ok (got x a)) h = before-more k o v w x (f a) h
+left-of k o v w f (ok (closed t)) h = (h .0, h .1, omega (arith, h .2), h .3 ∙ append-nil o, omega (arith, h .4))
+left-of k o v w f (ok ended) h = (h .0, h .1, h .3 ∙ append-nil o, omega (arith, h .4))
+left-of k o v w f (refused m p) h = h
 
-left-bound : (k : ℕ) (o : List ℕ) (w : Result Many) (f : Answer → Result Many) (s n : List ℕ) (y : Result One) → Left k o w f (andThen y (bound s n))
-    → Left k (o ++ record-of bindingKind n) w f (andThen y (due s))
-unfolding records
-left-bound k o w f s n (ok (got x a)) h =
-    subst (λ (r : List ℕ). Before (k + 1) r w (f a)) (sym (append-assoc o (record-of bindingKind n) (records x))) h
-left-bound k o w f s n (ok (closed t)) h = h
-left-bound k o w f s n (ok ended) h = h
-left-bound k o w f s n (refused m p) h = h
+left-bound : (k : ℕ) (o : List ℕ) (v : ℕ) (w : Result Many) (f : Answer → Result Many) (s n : List ℕ) (y : Result One) → Left k o v w f (andThen y (bound s n))
+    → Left k (o ++ record-of bindingKind n) (v + (length n + 3)) w f (andThen y (due s))
+unfolding records cost
+left-bound k o v w f s n (ok (got x a)) h =
+    let e : v + (length n + 3 + cost x) ≡ v + (length n + 3) + cost x = omega arith in
+    subst (λ (i : ℕ). Before (k + 1) ((o ++ record-of bindingKind n) ++ records x) i w (f a)) e
+    (subst (λ (r : List ℕ). Before (k + 1) r (v + (length n + 3 + cost x)) w (f a)) (sym (append-assoc o (record-of bindingKind n) (records x))) h)
+left-bound k o v w f s n (ok (closed t)) h = h
+left-bound k o v w f s n (ok ended) h = h
+left-bound k o v w f s n (refused m p) h = h
 
 -- where a tree is due, a `)` or the end is refused
 abbrev pub awaited : List ℕ → Bool → Result One → Result One
@@ -120,19 +129,22 @@ puts-from o o′ b₀ b b′ w p k f =
 pub got-spans : (s : List ℕ) (d : ℕ) (a b : Answer) (x : Tree) → Lexes s a → readTree s d a ≡ ok (got x b) → Spans s a b (length (records x))
 got-spans s d a b x h e = spans x s d a b h (subst (OneIs s d a) e (tree-is s d a))
 
--- the token at hand is a, j bindings wait for their tree, n trees are read, and with the names of those bindings their records are o
-pub record Going (s : List ℕ) (depth : ℕ) (w : Result Many) (a₀ : Answer) (b₀ : List ℕ) (a : Answer) (j n size : ℕ) (b : List ℕ) : Type 0 where
+-- the token at hand is a, j bindings wait for their tree, n trees are read, and with the names of those bindings their records are o and their costs u, told as v
+pub record Going (s : List ℕ) (depth : ℕ) (w : Result Many) (a₀ : Answer) (b₀ : List ℕ) (a : Answer) (j n size v : ℕ) (b : List ℕ) : Type 0 where
   pub lexes : Lexes s a
   pub on : n + place (length s) a₀ ≤ place (length s) a
   pub deep : j ≤ depth
   pub weighs : 2 * size + weigh (length s) a₀ ≤ weigh (length s) a
+  pub u : ℕ
+  pub costly : 22 * (u + n) ≤ 41 * size
+  pub counts : CostTold v u size (length b₀)
   pub o : List ℕ
   pub puts : Puts o size b₀ b
   pub same : length b ≡ length b₀
-  pub left : Left n o w (readItems (readTree s depth) (length s - n)) (awaited s (ltb 0 j) (readTree s (depth - j) a))
+  pub left : Left n o u w (readItems (readTree s depth) (length s - n)) (awaited s (ltb 0 j) (readTree s (depth - j) a))
 
 pub starts : (s : List ℕ) (depth : ℕ) (a : Answer) (b : List ℕ) → Lexes s a
-    → Going s depth (readItems (readTree s depth) (suc (length s)) a) a b a 0 0 0 b
+    → Going s depth (readItems (readTree s depth) (suc (length s)) a) a b a 0 0 0 0 b
 unfolding readItems
 starts s depth a b h =
     let f : Answer → Result One = readTree s depth in
@@ -143,13 +155,16 @@ starts s depth a b h =
       on = omega arith;
       deep = omega arith;
       weighs = omega arith;
+      u = 0;
+      costly = omega arith;
+      counts = (omega arith, λ _. refl);
       o = [];
       puts = (refl, λ _. refl);
       same = refl;
-      left = rw (e, d) (left-of 0 [] (readItems f (suc (length s)) a) (readItems f (length s)) (f a) (before-all (readItems f (suc (length s)) a)));
+      left = rw (e, d) (left-of 0 [] 0 (readItems f (suc (length s)) a) (readItems f (length s)) (f a) (before-all (readItems f (suc (length s)) a)));
     }
 
-module _ {s : List ℕ} {depth : ℕ} {w : Result Many} {a₀ : Answer} {b₀ : List ℕ} {a : Answer} {j n size : ℕ} {b : List ℕ} (g : Going s depth w a₀ b₀ a j n size b) where
+module _ {s : List ℕ} {depth : ℕ} {w : Result Many} {a₀ : Answer} {b₀ : List ℕ} {a : Answer} {j n size v : ℕ} {b : List ℕ} (g : Going s depth w a₀ b₀ a j n size v b) where
   abbrev here : Result One
   here = awaited s (ltb 0 j) (readTree s (depth - j) a)
 
@@ -157,49 +172,65 @@ module _ {s : List ℕ} {depth : ℕ} {w : Result Many} {a₀ : Answer} {b₀ : 
   pub size-top : length s ≤ sourceLimit → size ≤ tableLimit
   size-top h = omega (arith, g .weighs, weigh-top s a (g .lexes))
 
+  -- and what they cost
+  pub cost-top : length s ≤ sourceLimit → v ≤ 2 * tableLimit
+  cost-top h = omega (arith, g .costly, g .counts .0, size-top h)
+
+  -- what was read next costs k more, and was told to cost i more; its records end at z
+  more-told : (i k z : ℕ) → size ≤ z → i ≤ k → (z ≤ length b₀ → i ≡ k) → CostTold (v + i) (g .u + k) z (length b₀)
+  more-told i k z h l e =
+      (omega (arith, g .counts .0), λ r. let ev : v ≡ g .u = g .counts .1 (omega arith) in let ei : i ≡ k = e r in omega arith)
+
   -- a tree was read, and its records stand in the room
-  pub tree-turn : (x : Tree) (c : Answer) (k : ℕ) (b′ : List ℕ) → here ≡ ok (got x c) → Spans s a c (length (records x)) → k ≡ length (records x)
-      → Puts (g .o ++ records x) (size + k) b₀ b′ → length b′ ≡ length b₀ → Going s depth w a₀ b₀ c 0 (n + 1) (size + k) b′
+  pub tree-turn : (x : Tree) (c : Answer) (k i : ℕ) (b′ : List ℕ) → here ≡ ok (got x c) → Spans s a c (length (records x)) → k ≡ length (records x)
+      → CostTold i (cost x) (size + k) (length b₀) → Puts (g .o ++ records x) (size + k) b₀ b′ → length b′ ≡ length b₀
+      → Going s depth w a₀ b₀ c 0 (n + 1) (size + k) (v + i) b′
   unfolding readItems
-  tree-turn x c k b′ e q ek m l =
+  tree-turn x c k i b′ e q ek ei m l =
       let f : Answer → Result One = readTree s depth in
       let one : length s - n ≡ suc (length s - (n + 1)) = omega (arith, q .on, q .top, g .on) in
       let d : depth - 0 ≡ depth = omega arith in
-      let h : Before (n + 1) (g .o ++ records x) w (readItems f (length s - n) c) =
-      subst (Left n (g .o) w (readItems f (length s - n))) e (g .left) in
+      let h : Before (n + 1) (g .o ++ records x) (g .u + cost x) w (readItems f (length s - n) c) = subst (Left n (g .o) (g .u) w (readItems f (length s - n))) e (g .left) in
       record {
         lexes = q .lexes;
         on = omega (arith, q .on, g .on);
         deep = omega arith;
         weighs = omega (arith, q .size, g .weighs);
+        u = g .u + cost x;
+        costly = omega (arith, g .costly, cost-le x);
+        counts = more-told i (cost x) (size + k) (omega arith) (ei .0) (ei .1);
         o = g .o ++ records x;
         puts = m;
         same = l;
-        left = rw d (left-of (n + 1) (g .o ++ records x) w (readItems f (length s - (n + 1))) (f c)
-            (subst (λ (i : ℕ). Before (n + 1) (g .o ++ records x) w (readItems f i c)) one h));
+        left = rw d (left-of (n + 1) (g .o ++ records x) (g .u + cost x) w (readItems f (length s - (n + 1))) (f c)
+            (subst (λ (r : ℕ). Before (n + 1) (g .o ++ records x) (g .u + cost x) w (readItems f r c)) one h));
       }
 
   -- what was awaited is refused
   pub refused-turn : (m p : ℕ) → here ≡ refused m p → w ≡ refused m p
-  refused-turn m p e = subst (Left n (g .o) w (readItems (readTree s depth) (length s - n))) e (g .left)
+  refused-turn m p e = subst (Left n (g .o) (g .u) w (readItems (readTree s depth) (length s - n))) e (g .left)
 
   -- the records of trees in a row are those that were written
   filled : (ys : Trees) → recordsOf ys ≡ g .o → Filled (recordsOf ys) b₀ b
   filled ys e l = g .puts .1 (omega (arith, ap length e)) ∙ ap (λ (r : List ℕ). over r b₀) (sym e)
 
-  pub close-turn : (p : ℕ) → a ≡ ok (is (token rparen p 1)) → ltb 0 j ≡ false → ItemsTold w stop.Close 0 p n size b₀ b
+  told-of : (ys : Trees) → recordsOf ys ≡ g .o → costs ys ≡ g .u → CostTold v (costs ys) (length (recordsOf ys)) (length b₀)
+  told-of ys e f =
+      let m : size ≡ length (recordsOf ys) = g .puts .0 ∙ sym (ap length e) in (omega (arith, g .counts .0), λ l. g .counts .1 (omega arith) ∙ sym f)
+
+  pub close-turn : (p : ℕ) → a ≡ ok (is (token rparen p 1)) → ltb 0 j ≡ false → ItemsTold w stop.Close 0 p n size v b₀ b
   close-turn p e f =
       let h : here ≡ ok (closed (token rparen p 1)) =
       ap (λ (d : Bool). awaited s d (readTree s (depth - j) a)) f ∙ ap (readTree s (depth - j)) e ∙ read-rparen s (depth - j) (token rparen p 1) refl in
-      let k = subst (Left n (g .o) w (readItems (readTree s depth) (length s - n))) h (g .left) in
-      (k .0, token rparen p 1, k .1, refl, sym (k .2), g .puts .0 ∙ sym (ap length (k .3)), filled (k .0) (k .3))
+      let k = subst (Left n (g .o) (g .u) w (readItems (readTree s depth) (length s - n))) h (g .left) in
+      (k .0, token rparen p 1, k .1, refl, sym (k .2), g .puts .0 ∙ sym (ap length (k .3)), told-of (k .0) (k .3) (k .4), filled (k .0) (k .3))
 
-  pub end-turn : (p : ℕ) → a ≡ ok end → ltb 0 j ≡ false → ItemsTold w stop.End 0 p n size b₀ b
+  pub end-turn : (p : ℕ) → a ≡ ok end → ltb 0 j ≡ false → ItemsTold w stop.End 0 p n size v b₀ b
   end-turn p e f =
       let h : here ≡ ok ended =
       ap (λ (d : Bool). awaited s d (readTree s (depth - j) a)) f ∙ ap (readTree s (depth - j)) e ∙ read-end s (depth - j) in
-      let k = subst (Left n (g .o) w (readItems (readTree s depth) (length s - n))) h (g .left) in
-      (k .0, k .1, g .puts .0 ∙ sym (ap length (k .2)), filled (k .0) (k .2))
+      let k = subst (Left n (g .o) (g .u) w (readItems (readTree s depth) (length s - n))) h (g .left) in
+      (k .0, k .1, g .puts .0 ∙ sym (ap length (k .2)), told-of (k .0) (k .2) (k .3), filled (k .0) (k .2))
 
   -- the token is a symbol of m bytes, and q the place behind the gap after it
   module _ (p m : ℕ) (e : a ≡ ok (is (token symbol p m))) where
@@ -215,8 +246,11 @@ module _ {s : List ℕ} {depth : ℕ} {w : Result Many} {a₀ : Answer} {b₀ : 
     pub its-small : length s ≤ sourceLimit
     its-small = limited s (its-lexes .place) (token symbol p m) (its-lexes .gives)
 
+    its-size : length its ≡ m
+    its-size = name-length s (token symbol p m) its-end
+
     its-length : (k : ℕ) → m + headLen ≡ length (record-of k its)
-    its-length k = sym (length-record k its ∙ ap (λ (i : ℕ). i + headLen) (name-length s (token symbol p m) its-end))
+    its-length k = sym (length-record k its ∙ ap (λ (i : ℕ). i + headLen) its-size)
 
     -- its record, as the code puts it
     its-record : (k : ℕ) (b′ : List ℕ) → FilledFrom size (record-of k (take (p + m - p) (drop p s))) b b′
@@ -225,6 +259,10 @@ module _ {s : List ℕ} {depth : ℕ} {w : Result Many} {a₀ : Answer} {b₀ : 
         let d : p + m - p ≡ m = omega arith in
         subst⁻¹ (λ (i : ℕ). Puts (g .o ++ record-of k its) (size + i) b₀ b′) (its-length k)
         (puts-from (g .o) (record-of k its) b₀ b b′ size (g .puts) (g .same) (subst (λ (i : ℕ). FilledFrom size (record-of k (take i (drop p s))) b b′) d f))
+
+    -- its bytes, as the code tells them
+    its-told : (i : ℕ) → CostTold i (p + m - p) (size + (p + m - p) + headLen) (length b) → CostTold i m (size + (m + headLen)) (length b₀)
+    its-told i h = (omega (arith, h .0), λ l. h .1 (omega (arith, g .same)) ∙ omega arith)
 
     module _ (q : ℕ) (eq : q ≡ gapEnd s (p + m)) where
       -- no `@` stands there
@@ -238,12 +276,14 @@ module _ {s : List ℕ} {depth : ℕ} {w : Result Many} {a₀ : Answer} {b₀ : 
         unfolding records
         symbol-spans = subst⁻¹ (Spans s a (nextToken s q)) (its-length symbolKind) (got-spans s (depth - j) a (nextToken s q) (symbolTree its) (g .lexes) alone)
 
-        pub symbol-turn : (b′ : List ℕ) → FilledFrom size (record-of symbolKind (take (p + m - p) (drop p s))) b b′ → length b′ ≡ length b
-            → Going s depth w a₀ b₀ (nextToken s q) 0 (n + 1) (size + (m + headLen)) b′
-        unfolding records
-        symbol-turn b′ f l =
-            tree-turn (symbolTree its) (nextToken s q) (m + headLen) b′ (ap (awaited s (ltb 0 j)) alone ∙ awaited-got s (ltb 0 j) (symbolTree its) (nextToken s q))
-            (got-spans s (depth - j) a (nextToken s q) (symbolTree its) (g .lexes) alone) (its-length symbolKind) (its-record symbolKind b′ f) (l ∙ g .same)
+        pub symbol-turn : (i : ℕ) (b′ : List ℕ) → CostTold i (p + m - p) (size + (p + m - p) + headLen) (length b)
+            → FilledFrom size (record-of symbolKind (take (p + m - p) (drop p s))) b b′ → length b′ ≡ length b
+            → Going s depth w a₀ b₀ (nextToken s q) 0 (n + 1) (size + (m + headLen)) (v + i) b′
+        unfolding records cost
+        symbol-turn i b′ h f l =
+            tree-turn (symbolTree its) (nextToken s q) (m + headLen) i b′ (ap (awaited s (ltb 0 j)) alone ∙ awaited-got s (ltb 0 j) (symbolTree its) (nextToken s q))
+            (got-spans s (depth - j) a (nextToken s q) (symbolTree its) (g .lexes) alone) (its-length symbolKind)
+            (subst⁻¹ (λ (k : ℕ). CostTold i k (size + (m + headLen)) (length b₀)) its-size (its-told i h)) (its-record symbolKind b′ f) (l ∙ g .same)
 
       module _ (yes : atSign (classOf (getD s q 0)) ≡ true) where
         sign : after s (token symbol p m) ≡ ok (is (token at-sign q 1))
@@ -263,15 +303,19 @@ module _ {s : List ℕ} {depth : ℕ} {w : Result Many} {a₀ : Answer} {b₀ : 
             (subst⁻¹ (λ (x : Answer). Spans s x (nextToken s (q + 1)) (length (record-of bindingKind its))) e
             (name-spans s (token symbol p m) (token at-sign q 1) its-lexes sign))
 
-        pub bind-turn : (b′ : List ℕ) → (j ≡ depth → ⊥) → FilledFrom size (record-of bindingKind (take (p + m - p) (drop p s))) b b′ → length b′ ≡ length b
-            → Going s depth w a₀ b₀ (nextToken s (q + 1)) (j + 1) n (size + (m + headLen)) b′
-        bind-turn b′ nd f l =
+        pub bind-turn : (i : ℕ) (b′ : List ℕ) → (j ≡ depth → ⊥) → CostTold i (p + m - p) (size + (p + m - p) + headLen) (length b)
+            → FilledFrom size (record-of bindingKind (take (p + m - p) (drop p s))) b b′ → length b′ ≡ length b
+            → Going s depth w a₀ b₀ (nextToken s (q + 1)) (j + 1) n (size + (m + headLen)) (v + (i + 3)) b′
+        bind-turn i b′ nd ht f l =
+            let t′ = its-told i ht in
             let F : Answer → Result Many = readItems (readTree s depth) (length s - n) in
             let y : Result One = readTree s (depth - j - 1) (nextToken s (q + 1)) in
             let r : here ≡ andThen y (bound s its) =
             ap (awaited s (ltb 0 j)) (ap (readTree s (depth - j)) e
             ∙ read-bind s (depth - j) (token symbol p m) (token at-sign q 1) refl sign refl (λ z. nd (omega (arith, g .deep)))) ∙ awaited-bound s (ltb 0 j) its y in
-            let h : Left n (g .o ++ record-of bindingKind its) w F (andThen y (due s)) = left-bound n (g .o) w F s its y (subst (Left n (g .o) w F) r (g .left)) in
+            let h : Left n (g .o ++ record-of bindingKind its) (g .u + (m + 3)) w F (andThen y (due s)) =
+            subst (λ (i : ℕ). Left n (g .o ++ record-of bindingKind its) (g .u + (i + 3)) w F (andThen y (due s))) its-size
+            (left-bound n (g .o) (g .u) w F s its y (subst (Left n (g .o) (g .u) w F) r (g .left))) in
             let t : ltb 0 (j + 1) ≡ true = lt-ltb 0 (j + 1) (omega arith) in
             let dj : depth - (j + 1) ≡ depth - j - 1 = omega arith in
             record {
@@ -279,6 +323,9 @@ module _ {s : List ℕ} {depth : ℕ} {w : Result Many} {a₀ : Answer} {b₀ : 
               on = omega (arith, bind-spans .on, g .on);
               deep = omega (arith, g .deep, nd);
               weighs = omega (arith, bind-spans .size, g .weighs);
+              u = g .u + (m + 3);
+              costly = omega (arith, g .costly);
+              counts = more-told (i + 3) (m + 3) (size + (m + headLen)) (omega arith) (omega (arith, t′ .0)) (λ l. ap (λ (k : ℕ). k + 3) (t′ .1 l));
               o = g .o ++ record-of bindingKind its;
               puts = its-record bindingKind b′ f;
               same = l ∙ g .same;
@@ -299,17 +346,18 @@ module _ {s : List ℕ} {depth : ℕ} {w : Result Many} {a₀ : Answer} {b₀ : 
             absurd (let y : _≡_ {A = ℕ} 0 1 = cc in omega arith)
         by false (ok ended) h k = let z = subst (LeftOver false) h k in absurd (let y : _≡_ {A = ℕ} 0 1 = cc in omega arith)
 
-    module _ (a′ : Answer) (ea : a′ ≡ a) (t : Bool) (m p i : ℕ) (b₁ ys : List ℕ) (h : TreeTold s (andThen (readTree s (depth - j) a′) (due s)) t m p i b₁ ys) where
-      told-as : (t′ : Bool) → t ≡ t′ → TreeTold s (andThen (readTree s (depth - j) a) (due s)) t′ m p i b₁ ys
+    module _ (a′ : Answer) (ea : a′ ≡ a) (t : Bool) (m p i k : ℕ) (b₁ ys : List ℕ) (h : TreeTold s (andThen (readTree s (depth - j) a′) (due s)) t m p i k b₁ ys) where
+      told-as : (t′ : Bool) → t ≡ t′ → TreeTold s (andThen (readTree s (depth - j) a) (due s)) t′ m p i k b₁ ys
       told-as t′ e =
-          subst (λ (t : Bool). TreeTold s (andThen (readTree s (depth - j) a) (due s)) t m p i b₁ ys) e
-          (subst (λ (x : Answer). TreeTold s (andThen (readTree s (depth - j) x) (due s)) t m p i b₁ ys) ea h)
+          subst (λ (t : Bool). TreeTold s (andThen (readTree s (depth - j) a) (due s)) t m p i k b₁ ys) e
+          (subst (λ (x : Answer). TreeTold s (andThen (readTree s (depth - j) x) (due s)) t m p i k b₁ ys) ea h)
 
       pub no-tree-turn : t ≡ true → w ≡ refused m p
       no-tree-turn e = refused-turn m p (over-due ∙ told-as true e)
 
       module _ (e : t ≡ false) where
-        told : (x : Tree) × (andThen (readTree s (depth - j) a) (due s) ≡ ok (got x (nextToken s p))) × (i ≡ length (records x)) × Filled (records x) b₁ ys
+        told : (x : Tree) × (andThen (readTree s (depth - j) a) (due s) ≡ ok (got x (nextToken s p))) × (i ≡ length (records x))
+            × CostTold k (cost x) (length (records x)) (length b₁) × Filled (records x) b₁ ys
         told = told-as false e
 
         told-is : readTree s (depth - j) a ≡ ok (got (told .0) (nextToken s p))
@@ -324,12 +372,21 @@ module _ {s : List ℕ} {depth : ℕ} {w : Result Many} {a₀ : Answer} {b₀ : 
         pub told-spans : Spans s a (nextToken s p) i
         told-spans = subst⁻¹ (Spans s a (nextToken s p)) (told .2) (got-spans s (depth - j) a (nextToken s p) (told .0) (g .lexes) told-is)
 
+        -- a cost is less than twice the bytes of its records
+        pub told-cost : k ≤ 2 * i
+        told-cost = omega (arith, told .2, told .3 .0, cost-le (told .0))
+
         pub told-turn : (r : ℕ) → b₁ ≡ take (length b - r) (drop r b) → (size ≤ length b → r ≡ size) → length (putMid r (length b - r) b ys) ≡ length b
-            → Going s depth w a₀ b₀ (nextToken s p) 0 (n + 1) (size + i) (putMid r (length b - r) b ys)
+            → Going s depth w a₀ b₀ (nextToken s p) 0 (n + 1) (size + i) (v + k) (putMid r (length b - r) b ys)
         told-turn r eb er l =
-            tree-turn (told .0) (nextToken s p) i (putMid r (length b - r) b ys) (over-due ∙ told .1)
-            (got-spans s (depth - j) a (nextToken s p) (told .0) (g .lexes) told-is) (told .2)
-            (puts-both (g .o) (records (told .0)) b₀ b ys size i r (g .puts) er (told .2, subst (λ (x : List ℕ). Filled (records (told .0)) x ys) eb (told .3))) (l ∙ g .same)
+            let room : size + i ≤ length b₀ → length (records (told .0)) ≤ length b₁ =
+            λ h.
+            let er′ : r ≡ size = er (omega (arith, g .same)) in
+            let part : length b₁ ≡ length b - r = ap length eb ∙ part-length r b in
+            omega (arith, told .2, g .same) in
+            tree-turn (told .0) (nextToken s p) i k (putMid r (length b - r) b ys) (over-due ∙ told .1)
+            (got-spans s (depth - j) a (nextToken s p) (told .0) (g .lexes) told-is) (told .2) (told .3 .0, λ h. told .3 .1 (room h))
+            (puts-both (g .o) (records (told .0)) b₀ b ys size i r (g .puts) er (told .2, subst (λ (x : List ℕ). Filled (records (told .0)) x ys) eb (told .4))) (l ∙ g .same)
 
 -- ---- at the terms that the code has
 

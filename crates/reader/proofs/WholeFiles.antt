@@ -55,9 +55,9 @@ module _ (s : List ℕ) where
         f (omega arith) ∙ sym (ap (λ (x : Result Trees). leaves x t) e ∙ ap (λ (c : Bool). cond c (over (recordsOf xs) t) t) k),
       )
 
-  module _ (st : Stop) (m q k n : ℕ) (b b′ : List ℕ) (h : ItemsTold items st m q k n b b′) where
-    abbrev told : (st′ : Stop) → st ≡ st′ → ItemsTold items st′ m q k n b b′
-    told st′ g = subst (λ (z : Stop). ItemsTold items z m q k n b b′) g h
+  module _ (st : Stop) (m q k n v : ℕ) (b b′ : List ℕ) (h : ItemsTold items st m q k n v b b′) where
+    abbrev told : (st′ : Stop) → st ≡ st′ → ItemsTold items st′ m q k n v b b′
+    told st′ g = subst (λ (z : Stop). ItemsTold items z m q k n v b b′) g h
 
     pub refused-told : (t : List ℕ) → st ≡ stop.Refusal → Reads t t (refused m q)
     refused-told t g = reads-refused t m q (file-by (refused m q) (told stop.Refusal g))
@@ -76,7 +76,7 @@ module _ (s : List ℕ) where
         let w = told stop.End g in
         reads-whole t t′ (w .0) n (file-by (ok (toEnd (w .0))) (w .1)) (w .2) l (by (r .stop) h₂ (w .0) (w .1))
       where
-        by : (st₂ : Stop) → ItemsTold items st₂ (r .number) (r .place) (r .n) (r .size) t t′ → (xs : Trees) → items ≡ ok (toEnd xs) → Filled (recordsOf xs) t t′
-        by stop.Close v xs e = let f = sym (v .2) ∙ e in let z : _≡_ {A = ℕ} 0 1 = cc in absurd (omega arith)
-        by stop.End v xs e = let f = sym (v .1) ∙ e in let x : v .0 ≡ xs = cc in subst (λ (y : Trees). Filled (recordsOf y) t t′) x (v .3)
-        by stop.Refusal v xs e = let f = sym v ∙ e in let z : _≡_ {A = ℕ} 0 1 = cc in absurd (omega arith)
+        by : (st₂ : Stop) → ItemsTold items st₂ (r .number) (r .place) (r .n) (r .size) (r .cost) t t′ → (xs : Trees) → items ≡ ok (toEnd xs) → Filled (recordsOf xs) t t′
+        by stop.Close u xs e = let f = sym (u .2) ∙ e in let z : _≡_ {A = ℕ} 0 1 = cc in absurd (omega arith)
+        by stop.End u xs e = let f = sym (u .1) ∙ e in let x : u .0 ≡ xs = cc in subst (λ (y : Trees). Filled (recordsOf y) t t′) x (u .4)
+        by stop.Refusal u xs e = let f = sym u ∙ e in let z : _≡_ {A = ℕ} 0 1 = cc in absurd (omega arith)

@@ -10,7 +10,7 @@ use Rattle.lists.specs.Over.{over}
 use Rattle.lists.specs.Rooms.{Filled}
 use Rattle.lexer.specs.Tokens.{Kind, lparen, rparen, at-sign, symbol, int, Token, token, Answer, end, is}
 use Rattle.lexer.specs.Lexing.{nextToken}
-use Rattle.table.specs.Trees.{Tree, Trees, count, records, recordsOf}
+use Rattle.table.specs.Trees.{Tree, Trees, count, cost, costs, records, recordsOf}
 use Rattle.reader.specs.Grammar.{One, got, closed, ended, Many, upTo, toEnd}
 use Rattle.reader.specs.declared.parts.OneRead.{OneRead}
 use Rattle.reader.specs.declared.parts.ManyRead.{ManyRead}
@@ -34,23 +34,30 @@ due s ended = refused noTree (length s)
 abbrev pub FilledFrom : ℕ → List ℕ → List ℕ → List ℕ → Type 0
 FilledFrom p o b b′ = p + length o ≤ length b → b′ ≡ take p b ++ over o (drop p b)
 
--- a tree: the place past it, the bytes of its records, and these at the front of the room; or a refusal
-abbrev pub TreeTold : List ℕ → Result One → Bool → ℕ → ℕ → ℕ → List ℕ → List ℕ → Type 0
-TreeTold s y false m p n b b′ = (x : Tree) × (y ≡ ok (got x (nextToken s p))) × (n ≡ length (records x)) × Filled (records x) b b′
-TreeTold s y true m p n b b′ = y ≡ refused m p
+-- the cost v told of what costs k and has records of n bytes: no more than k, and k where a room of r bytes holds those records
+abbrev pub CostTold : ℕ → ℕ → ℕ → ℕ → Type 0
+CostTold v k n r = (v ≤ k) × (n ≤ r → v ≡ k)
+
+-- a tree: the place past it, the bytes of its records, its cost if there is room for them, and the records at the front of the room; or a refusal
+abbrev pub TreeTold : List ℕ → Result One → Bool → ℕ → ℕ → ℕ → ℕ → List ℕ → List ℕ → Type 0
+TreeTold s y false m p n v b b′ = (x : Tree) × (y ≡ ok (got x (nextToken s p))) × (n ≡ length (records x)) × CostTold v (cost x) (length (records x)) (length b) × Filled (records x) b b′
+TreeTold s y true m p n v b b′ = y ≡ refused m p
 
 abbrev pub TreeRead : List ℕ → Result One → OneRead → List ℕ → List ℕ → Type 0
-TreeRead s y r b b′ = TreeTold s y (r .refused) (r .number) (r .place) (r .size) b b′
+TreeRead s y r b b′ = TreeTold s y (r .refused) (r .number) (r .place) (r .size) (r .cost) b b′
 
--- trees in a row: how many, the bytes of their records, these at the front of the room, and the start of the `)` that stopped them; or a refusal
-abbrev pub ItemsTold : Result Many → Stop → ℕ → ℕ → ℕ → ℕ → List ℕ → List ℕ → Type 0
-ItemsTold y stop.Close m p k n b b′ =
-    (xs : Trees) × (t : Token) × (y ≡ ok (upTo xs t)) × (p ≡ t .start) × (k ≡ count xs) × (n ≡ length (recordsOf xs)) × Filled (recordsOf xs) b b′
-ItemsTold y stop.End m p k n b b′ = (xs : Trees) × (y ≡ ok (toEnd xs)) × (n ≡ length (recordsOf xs)) × Filled (recordsOf xs) b b′
-ItemsTold y stop.Refusal m p k n b b′ = y ≡ refused m p
+-- trees in a row: how many, the bytes of their records, their costs together if there is room for them, the records at the front of the room, and the start of the `)` that stopped them;
+-- or a refusal
+abbrev pub ItemsTold : Result Many → Stop → ℕ → ℕ → ℕ → ℕ → ℕ → List ℕ → List ℕ → Type 0
+ItemsTold y stop.Close m p k n v b b′ =
+    (xs : Trees) × (t : Token) × (y ≡ ok (upTo xs t)) × (p ≡ t .start) × (k ≡ count xs) × (n ≡ length (recordsOf xs))
+    × CostTold v (costs xs) (length (recordsOf xs)) (length b) × Filled (recordsOf xs) b b′
+ItemsTold y stop.End m p k n v b b′ =
+    (xs : Trees) × (y ≡ ok (toEnd xs)) × (n ≡ length (recordsOf xs)) × CostTold v (costs xs) (length (recordsOf xs)) (length b) × Filled (recordsOf xs) b b′
+ItemsTold y stop.Refusal m p k n v b b′ = y ≡ refused m p
 
 abbrev pub ItemsRead : Result Many → ManyRead → List ℕ → List ℕ → Type 0
-ItemsRead y r b b′ = ItemsTold y (r .stop) (r .number) (r .place) (r .n) (r .size) b b′
+ItemsRead y r b b′ = ItemsTold y (r .stop) (r .number) (r .place) (r .n) (r .size) (r .cost) b b′
 
 -- what a loop over trees leaves to the routine for a tree: no symbol, and a `)` or the end only where a tree is due
 abbrev pub LeftKind : Bool → Kind → Type 0

@@ -40,8 +40,8 @@ fn read_tree(src: &[u8], tok: Lexed, depth: usize, buf: &mut [u8]) -> OneRead
             // Does not come here.
             Token::Symbol(_) => parts::no_tree(refusals::NO_TREE, start),
             Token::Int(w, n) => {
-                put::integer(w, buf);
-                parts::tree(start + n, table::INTEGER_LEN)
+                let cost = put::integer(w, buf);
+                parts::tree(start + n, table::INTEGER_LEN, cost)
             }
             Token::LParen => {
                 if depth == 0 {
@@ -54,8 +54,10 @@ fn read_tree(src: &[u8], tok: Lexed, depth: usize, buf: &mut [u8]) -> OneRead
                     Stop::Refusal => parts::no_tree(items.number, items.place),
                     Stop::End => parts::no_tree(refusals::LIST_OPEN, start),
                     Stop::Close => {
-                        put::list(items.n, buf);
-                        parts::tree(items.place + 1, items.size + table::LIST_LEN)
+                        // The cost is known once the items are, so that the list's own record is put after them.
+                        let cost = items.n + 1 + items.cost;
+                        put::list(items.n, cost, buf);
+                        parts::tree(items.place + 1, items.size + table::LIST_LEN, cost)
                     }
                 }
             }
@@ -73,15 +75,17 @@ fn read_items(src: &[u8], at: usize, depth: usize, buf: &mut [u8]) -> ManyRead
     let mut due = 0;
     let mut n = 0;
     let mut size = 0;
+    // As far as the records are put, for it is only wanted where they all are.
+    let mut cost = 0;
     loop {
         let tok = lexer::next_token(src, at);
         let seen = parts::glance(tok, 0 < due);
         match seen {
             Look::Close(place) => {
-                return parts::items(Stop::Close, place, n, size);
+                return parts::items(Stop::Close, place, n, size, cost);
             }
             Look::End => {
-                return parts::items(Stop::End, 0, n, size);
+                return parts::items(Stop::End, 0, n, size, cost);
             }
             Look::Name(start, k) => {
                 let end = start + k;
@@ -90,12 +94,12 @@ fn read_items(src: &[u8], at: usize, depth: usize, buf: &mut [u8]) -> ManyRead
                     if due == depth {
                         return parts::no_items(refusals::TOO_DEEP, start);
                     }
-                    put::name(table::BINDING, src, start, end, size, buf);
+                    cost += put::name(table::BINDING, src, start, end, size, buf) + 3;
                     at += 1;
                     due += 1;
                     size += k + records::HEAD;
                 } else {
-                    put::name(table::SYMBOL, src, start, end, size, buf);
+                    cost += put::name(table::SYMBOL, src, start, end, size, buf);
                     due = 0;
                     n += 1;
                     size += k + records::HEAD;
@@ -111,6 +115,7 @@ fn read_items(src: &[u8], at: usize, depth: usize, buf: &mut [u8]) -> ManyRead
                 due = 0;
                 n += 1;
                 size += one.size;
+                cost += one.cost;
             }
         }
     }

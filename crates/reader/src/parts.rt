@@ -13,8 +13,9 @@ pub struct OneRead {
     pub number: u8,
     // The place past the tree, or the refusal's.
     pub place: usize,
-    // The bytes of its records.
+    // The bytes of its records, and its cost if the room holds them.
     pub size: usize,
+    pub cost: usize,
 }
 
 // What stopped trees in a row.
@@ -29,9 +30,10 @@ pub struct ManyRead {
     pub number: u8,
     // The start of the `)`, or the refusal's place.
     pub place: usize,
-    // How many trees, and the bytes of their records.
+    // How many trees, the bytes of their records, and their costs together if the room holds them.
     pub n: usize,
     pub size: usize,
+    pub cost: usize,
 }
 
 pub enum Look {
@@ -43,30 +45,32 @@ pub enum Look {
     Other,
 }
 
-pub fn tree(place: usize, size: usize) -> OneRead
-    ensures { λ r. ⌜ r ≡ record { refused = false; number = 0; place = place; size = size } ⌝ }
+pub fn tree(place: usize, size: usize, cost: usize) -> OneRead
+    ensures { λ r. ⌜ r ≡ record { refused = false; number = 0; place = place; size = size; cost = cost } ⌝ }
 {
     OneRead {
         refused: false,
         number: 0,
         place,
         size,
+        cost,
     }
 }
 
 pub fn no_tree(number: u8, place: usize) -> OneRead
-    ensures { λ r. ⌜ r ≡ record { refused = true; number = number; place = place; size = 0 } ⌝ }
+    ensures { λ r. ⌜ r ≡ record { refused = true; number = number; place = place; size = 0; cost = 0 } ⌝ }
 {
     OneRead {
         refused: true,
         number,
         place,
         size: 0,
+        cost: 0,
     }
 }
 
-pub fn items(stop: Stop, place: usize, n: usize, size: usize) -> ManyRead
-    ensures { λ r. ⌜ r ≡ record { stop = stop; number = 0; place = place; n = n; size = size } ⌝ }
+pub fn items(stop: Stop, place: usize, n: usize, size: usize, cost: usize) -> ManyRead
+    ensures { λ r. ⌜ r ≡ record { stop = stop; number = 0; place = place; n = n; size = size; cost = cost } ⌝ }
 {
     ManyRead {
         stop,
@@ -74,11 +78,12 @@ pub fn items(stop: Stop, place: usize, n: usize, size: usize) -> ManyRead
         place,
         n,
         size,
+        cost,
     }
 }
 
 pub fn no_items(number: u8, place: usize) -> ManyRead
-    ensures { λ r. ⌜ r ≡ record { stop = stop.Refusal; number = number; place = place; n = 0; size = 0 } ⌝ }
+    ensures { λ r. ⌜ r ≡ record { stop = stop.Refusal; number = number; place = place; n = 0; size = 0; cost = 0 } ⌝ }
 {
     ManyRead {
         stop: Stop::Refusal,
@@ -86,6 +91,7 @@ pub fn no_items(number: u8, place: usize) -> ManyRead
         place,
         n: 0,
         size: 0,
+        cost: 0,
     }
 }
 

@@ -105,6 +105,10 @@ badSettings = 23
 abbrev pub notSet : ℕ
 notSet = 24
 
+-- stored cost wrong, at the list's record
+abbrev pub wrongCost : ℕ
+wrongCost = 25
+
 -- style name not of 1 to 32 bytes, at its length
 abbrev pub badStyleName : ℕ
 badStyleName = 26

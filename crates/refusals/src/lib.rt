@@ -65,4 +65,6 @@ pub const BAD_SETTINGS: u8 = 23;
 
 pub const NOT_SET: u8 = 24;
 
+pub const WRONG_COST: u8 = 25;
+
 pub const BAD_STYLE_NAME: u8 = 26;

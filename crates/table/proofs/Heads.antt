@@ -1,6 +1,6 @@
 -- How the first record of a tree is read where it stands. Assumes nothing.
-use mathlib.Core.Path.{_≡_, refl, ap, sym, _∙_}
-use mathlib.Core.List.{List}
+use mathlib.Core.Path.{_≡_, refl, ap, sym, subst, _∙_}
+use mathlib.Core.List.{List, _++_}
 use Prim.Native.Nat.{ℕ, _+_, _-_, _^_, _≤_, _<_}
 use native.Mathlib.Omega.{arith}
 use lib.ListN.{length, length-append}
@@ -8,14 +8,16 @@ use lib.Dec.{lit<}
 use lib.IntN.{ℤ}
 use mir.Syntax.{w128}
 use mir.Val.{toZ}
-use Rattle.lists.proofs.Stands.{Stands, stands-left, stands-take}
-use Rattle.wide.specs.Bytes.{le, number, numberAt, wideBytes, integerAt}
+use borrow.Author.Tests.{le-leb, lt-leb}
+use Rattle.lists.proofs.Stands.{Stands, stands-left, stands-right, stands-take}
+use Rattle.wide.specs.Bytes.{le, number, numberAt, numberIn, wideBytes, integerAt}
 use Rattle.wide.proofs.Numbers.{le-length, number-le, wide-length, wide-back}
 use Rattle.records.specs.Records.{headLen, record-of, headAt}
 use Rattle.records.proofs.Heads.{Stood, stood, stood-head, length-record}
 use Rattle.table.specs.Kinds.{symbolKind, integerKind, bindingKind, listKind}
-use Rattle.table.specs.Trees.{Tree, Trees, symbol, integer, binding, list, none, more, count, InRange, Good, Goods, records, recordsOf}
+use Rattle.table.specs.Trees.{Tree, Trees, symbol, integer, binding, list, none, more, count, InRange, Good, Goods, cost, records, recordsOf}
 use Rattle.table.specs.Records.{Record, Symbol, Integer, Binding, ListOf, kindOf, recordAt}
+use Rattle.table.specs.Costs.{storedCost}
 use Rattle.table.proofs.Integers.{fits-range}
 use Rattle.table.proofs.Reading.{record-is}
 
@@ -31,16 +33,40 @@ binding-read t p n h = sym (record-by t p bindingKind n h)
 pub integer-read : (t : List ℕ) (p : ℕ) (bs : List ℕ) → length bs ≡ 16 → Stood t p integerKind bs → Integer ≡ recordAt t p
 integer-read t p bs e h = sym (record-by t p integerKind bs h ∙ rw e refl)
 
-pub list-read : (t : List ℕ) (p n : ℕ) → n < 2 ^ 32 → Stood t p listKind (le 4 n) → ListOf n ≡ recordAt t p
-list-read t p n lt h =
-    sym (record-by t p listKind (le 4 n) h ∙ rw (stands-take t (p + headLen) (le 4 n) (h .body) 4 (le-length 4 n), le-length 4 n, number-le 4 n lt) refl)
+pub list-read : (t : List ℕ) (p n k : ℕ) → n < 2 ^ 32 → Stood t p listKind (le 4 n ++ le 4 k) → ListOf n ≡ recordAt t p
+list-read t p n k lt h =
+    let z : length (le 4 n ++ le 4 k) ≡ 8 = simp (length-append, le-length) refl in
+    let v : numberAt 4 t (p + headLen) ≡ n =
+    ap number (stands-take t (p + headLen) (le 4 n) (stands-left t (p + headLen) (le 4 n) (le 4 k) (h .body)) 4 (le-length 4 n)) ∙ number-le 4 n lt in
+    sym (record-by t p listKind (le 4 n ++ le 4 k) h ∙ rw (v, z) refl)
+
+-- and the cost that it stores
+pub stored-read : (t : List ℕ) (p n k : ℕ) → k < 2 ^ 32 → Stood t p listKind (le 4 n ++ le 4 k) → storedCost t p ≡ k
+unfolding storedCost
+stored-read t p n k lt h =
+    let z : length (le 4 n ++ le 4 k) ≡ 8 = simp (length-append, le-length) refl in
+    let s : Stands t (p + headLen + 4) (le 4 k) =
+    subst (λ (j : ℕ). Stands t (p + headLen + j) (le 4 k)) (le-length 4 n) (stands-right t (p + headLen) (le 4 n) (le 4 k) (h .body)) in
+    let e : p + headLen + 4 ≡ p + (headLen + 4) = omega arith in
+    let v : numberAt 4 t (p + (headLen + 4)) ≡ k =
+    ap number (stands-take t (p + (headLen + 4)) (le 4 k) (subst (λ (j : ℕ). Stands t j (le 4 k)) e s) 4 (le-length 4 k)) ∙ number-le 4 k lt in
+    rw (le-leb (p + (headLen + 4) + 4) (length t) (omega (arith, h .room))) v
+
+-- how the code reads it, of any table
+pub stored-at : (t : List ℕ) (at : ℕ) → numberIn 4 t (at + headLen + 4) ≡ storedCost t at
+unfolding storedCost
+stored-at t at = ap (numberIn 4 t) (omega arith)
+
+pub stored-past : (t : List ℕ) (at : ℕ) → length t ≤ at → 0 ≡ storedCost t at
+unfolding storedCost
+stored-past t at h = rw (lt-leb (at + (headLen + 4) + 4) (length t) (omega arith)) refl
 
 -- the two kinds whose payload has a fixed length
 pub integer-stood : (t : List ℕ) (p : ℕ) (z : ℤ) → p ≤ length t → Stands t p (record-of integerKind (wideBytes z)) → Stood t p integerKind (wideBytes z)
 integer-stood t p z hp s = stood t p integerKind (wideBytes z) hp (lit< tt) (rw (wide-length z) (lit< tt)) s
 
-pub list-stood : (t : List ℕ) (p n : ℕ) → p ≤ length t → Stands t p (record-of listKind (le 4 n)) → Stood t p listKind (le 4 n)
-list-stood t p n hp s = stood t p listKind (le 4 n) hp (lit< tt) (rw (le-length 4 n) (lit< tt)) s
+pub list-stood : (t : List ℕ) (p n k : ℕ) → p ≤ length t → Stands t p (record-of listKind (le 4 n ++ le 4 k)) → Stood t p listKind (le 4 n ++ le 4 k)
+list-stood t p n k hp s = stood t p listKind (le 4 n ++ le 4 k) hp (lit< tt) (simp (length-append, le-length) (lit< tt)) s
 
 -- ---- how the first record of a tree is read, whatever the depth: lengths and counts fit their bytes, and integers are in range
 
@@ -80,7 +106,8 @@ reads (symbol n) t p g hp s = symbol-read t p n (stood t p symbolKind n hp (lit<
 reads (integer z) t p g hp s = integer-read t p (wideBytes z) (wide-length z) (integer-stood t p z hp s)
 reads (binding n x) t p g hp s = binding-read t p n (stood t p bindingKind n hp (lit< tt) (g .0) (stands-left t p (record-of bindingKind n) (records x) s))
 reads (list xs) t p g hp s =
-    list-read t p (count xs) (g .0) (list-stood t p (count xs) hp (stands-left t p (record-of listKind (le 4 (count xs))) (recordsOf xs) s))
+    list-read t p (count xs) (cost (list xs)) (g .0)
+    (list-stood t p (count xs) (cost (list xs)) hp (stands-left t p (record-of listKind (le 4 (count xs) ++ le 4 (cost (list xs)))) (recordsOf xs) s))
 
 -- and the 16 bytes of an integer's record
 pub bits-read : (z : ℤ) (t : List ℕ) (p : ℕ) → Stood t p integerKind (wideBytes z) → numberAt 16 t (p + headLen) ≡ number (wideBytes z)

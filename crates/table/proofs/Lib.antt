@@ -1,11 +1,13 @@
+pub mod Costs
 pub mod Integers
 pub mod Reading
 pub mod Names
 pub mod Heads
+pub mod Spans
 pub mod Encoded
 pub mod Decoded
 pub mod Steps
-pub mod Checking
+pub mod Walks
 pub mod Whole
 pub mod Deeper
 pub mod Cases

@@ -1,13 +1,18 @@
--- The bytes of a symbol, one by one. Assumes nothing.
+-- The bytes of a name, and of a symbol one by one. Assumes nothing.
 use mathlib.Core.Path.{_≡_, refl}
 use mathlib.Core.Bool.{true, false}
 use mathlib.Core.List.{List, [], _∷_}
-use Prim.Native.Nat.{ℕ, _+_, _≤_, _<_}
+use Prim.Native.Nat.{ℕ, _+_, _-_, _≤_, _<_}
 use native.Mathlib.Omega.{arith}
-use lib.ListN.{length, drop, getD, drop-of-length-le}
+use lib.ListN.{length, take, drop, getD, drop-of-length-le}
 use Rattle.classes.specs.Classes.{classOf, symbolFirst, symbolOther}
 use Rattle.lists.proofs.Places.{from}
+use Rattle.records.specs.Records.{headLen, payload}
 use Rattle.table.specs.Trees.{runsOn, isSymbol}
+
+-- what `&t[start..end]` holds between the header of a record and its end
+pub part : (t : List ℕ) (at len : ℕ) → take (at + len - (at + headLen)) (drop (at + headLen) t) ≡ payload t at len
+part t at len = let e : at + len - (at + headLen) ≡ len - headLen = omega arith in rw e refl
 
 pub empty : (s : List ℕ) → length s ≡ 0 → false ≡ isSymbol s
 unfolding isSymbol

@@ -13,7 +13,7 @@ use Rattle.refusals.specs.Result.{Result, ok, refused}
 use Rattle.records.specs.Records.{headLen, payload}
 use Rattle.table.specs.Trees.{Tree, Trees, symbol, none, more, count, isSymbol}
 use Rattle.table.specs.Records.{Record, Symbol, Integer, Binding, ListOf, Bad, recordAt}
-use Rattle.table.specs.Decoding.{Found, found, andThen, itemsAt, Step, stepOf, stepAt, ofStep, treeAt, treesAt, tableOf}
+use Rattle.table.specs.Decoding.{Found, found, andThen, itemsAt, Step, stepOf, stepAt, ofStep, treeAt, treesAt, shapeOf, tableOf}
 use Rattle.table.specs.Past.{pastName, pastSymbol}
 use Rattle.table.proofs.Reading.{symbol-in, Ends, StepIn, judged-in, tree-step, tree-of, tree-end}
 
@@ -137,16 +137,21 @@ pub record Read (t : List ℕ) (p : ℕ) : Type 0 where
   pub enough : length t < k + p
   -- the trees done, before those that are left
   pub pre : Trees → Trees
-  pub whole : tableOf t ≡ andThen (treesAt t k p) (λ ys q. ok (found (pre ys) q))
+  pub whole : shapeOf t ≡ andThen (treesAt t k p) (λ ys q. ok (found (pre ys) q))
   pub within : p ≤ length t
   pub limit : length t ≤ tableLimit
 
-pub too-long : (t : List ℕ) → tableLimit < length t → tableOf t ≡ refused tooLong tableLimit
+-- a table without a shape is refused for it
+pub shapeless : (t : List ℕ) (n a : ℕ) → shapeOf t ≡ refused n a → tableOf t ≡ refused n a
 unfolding tableOf
-too-long t h = rw (lt-ltb tableLimit (length t) h) refl
+shapeless t n a e = rw e refl
 
-pub read-whole : (t : List ℕ) → length t ≤ tableLimit → tableOf t ≡ andThen (treesAt t (length t + 1) 0) (λ ys q. ok (found ys q))
-unfolding tableOf
+pub too-long : (t : List ℕ) → tableLimit < length t → tableOf t ≡ refused tooLong tableLimit
+unfolding shapeOf
+too-long t h = shapeless t tooLong tableLimit (rw (lt-ltb tableLimit (length t) h) refl)
+
+pub read-whole : (t : List ℕ) → length t ≤ tableLimit → shapeOf t ≡ andThen (treesAt t (length t + 1) 0) (λ ys q. ok (found ys q))
+unfolding shapeOf
 read-whole t h = rw (le-ltb tableLimit (length t) h) (all-of (treesAt t (length t + 1) 0))
 
 abbrev pub read-begin : (t : List ℕ) → length t ≤ tableLimit → Read t 0
@@ -163,7 +168,7 @@ module _ (t : List ℕ) (p : ℕ) (g : Read t p) where
   unfolding treesAt
   read-tree q x lt e = by (g .k) (g .enough) (g .whole)
     where
-      by : (k : ℕ) → length t < k + p → tableOf t ≡ andThen (treesAt t k p) (λ ys q. ok (found (g .pre ys) q)) → Onward x q
+      by : (k : ℕ) → length t < k + p → shapeOf t ≡ andThen (treesAt t k p) (λ ys q. ok (found (g .pre ys) q)) → Onward x q
       by zero h f = absurd (omega arith)
       by (suc k) h f =
           let i = found-in t depthLimit p q x (g .within) e in
@@ -182,16 +187,16 @@ module _ (t : List ℕ) (p : ℕ) (g : Read t p) where
 
   pub read-stop : (b a : ℕ) → p < length t → treeAt t depthLimit p ≡ refused b a → tableOf t ≡ refused b a
   unfolding treesAt
-  read-stop b a lt e = by (g .k) (g .enough) (g .whole)
+  read-stop b a lt e = shapeless t b a (by (g .k) (g .enough) (g .whole))
     where
-      by : (k : ℕ) → length t < k + p → tableOf t ≡ andThen (treesAt t k p) (λ ys q. ok (found (g .pre ys) q)) → tableOf t ≡ refused b a
+      by : (k : ℕ) → length t < k + p → shapeOf t ≡ andThen (treesAt t k p) (λ ys q. ok (found (g .pre ys) q)) → shapeOf t ≡ refused b a
       by zero h f = absurd (omega arith)
       by (suc k) h f = f ∙ rw (lt-ltb p (length t) lt, e) refl
 
-  pub read-end : length t ≤ p → tableOf t ≡ ok (found (g .pre none) p)
+  pub read-end : length t ≤ p → shapeOf t ≡ ok (found (g .pre none) p)
   unfolding treesAt
   read-end le = by (g .k) (g .whole)
     where
-      by : (k : ℕ) → tableOf t ≡ andThen (treesAt t k p) (λ ys q. ok (found (g .pre ys) q)) → tableOf t ≡ ok (found (g .pre none) p)
+      by : (k : ℕ) → shapeOf t ≡ andThen (treesAt t k p) (λ ys q. ok (found (g .pre ys) q)) → shapeOf t ≡ ok (found (g .pre none) p)
       by zero f = f
       by (suc k) f = f ∙ rw (le-ltb p (length t) le) refl

@@ -12,11 +12,14 @@ use Rattle.refusals.specs.Numbers.{tableLimit, depthLimit, tooLong}
 use Rattle.wide.specs.Bytes.{Bytes}
 use Rattle.refusals.specs.Result.{Result, ok, refused}
 use Rattle.table.specs.Trees.{Tree, Trees, none, more, Good, Goods, records, recordsOf}
-use Rattle.table.specs.Decoding.{Found, found, andThen, treeAt, treesAt, tableOf}
+use Rattle.table.specs.Decoding.{Found, found, andThen, treeAt, treesAt, shapeOf, ifCosted, tableOf}
+use Rattle.table.specs.Costs.{costed, costedAll}
 use Rattle.table.specs.Accepted.{Accepted}
 use Rattle.lists.proofs.Stands.{Stands, stands-left, stands-right, stands-join, stands-none, stands-length}
 use Rattle.table.proofs.Heads.{some}
-use Rattle.table.proofs.Encoded.{tree-is}
+use Rattle.table.proofs.Costs.{both-right}
+use Rattle.table.proofs.Encoded.{tree-is, trees-right}
+use Rattle.table.proofs.Spans.{Spans, tree-spans}
 use Rattle.table.proofs.Decoded.{Holds, tree-holds}
 
 -- ---- from trees to the table and back
@@ -46,56 +49,75 @@ whole-is (more x xs) t (suc k) p g hp s e h =
 
 pub complete : (xs : Trees) → Goods xs depthLimit → length (recordsOf xs) ≤ tableLimit
     → tableOf (recordsOf xs) ≡ ok (found xs (length (recordsOf xs)))
-unfolding tableOf
+unfolding tableOf shapeOf
 complete xs g h =
     let t : List ℕ = recordsOf xs in
     let all : Stands t 0 t = sym (ap (λ (r : List ℕ). t ++ r) (drop-of-length-le t {i = 0 + length t} (omega arith)) ∙ append-nil t) in
-    rw (le-ltb tableLimit (length (recordsOf xs)) h) (whole-is xs t (length t + 1) 0 g (omega arith) all (omega arith) (omega arith))
+    rw (le-ltb tableLimit (length (recordsOf xs)) h, whole-is xs t (length t + 1) 0 g (omega arith) all (omega arith) (omega arith), trees-right xs t 0 h (omega arith) all) refl
 
 -- ---- from a table to its trees
 
 abbrev AllOf : List ℕ → ℕ → Result (Found Trees) → Type 0
 AllOf t p (ok (found xs q)) =
-    Stands t p (recordsOf xs) × (p + length (recordsOf xs) ≡ length t) × (q ≡ length t) × Goods xs depthLimit
+    (costedAll t xs p ≡ ok tt → Stands t p (recordsOf xs)) × (p + length (recordsOf xs) ≡ length t) × (q ≡ length t) × Goods xs depthLimit
 AllOf t p (refused n a) = Unit {0}
 
 whole-holds : (t : List ℕ) → Bytes t → (k p : ℕ) → p ≤ length t → length t < k + p → AllOf t p (treesAt t k p)
-unfolding treesAt records Good
+unfolding treesAt records Good costed
 whole-holds t hb zero p hp h = absurd (omega arith)
 whole-holds t hb (suc k) p hp h = at-end (ltb p (length t)) refl (whole-holds t hb k)
   where
-    last : (x : Tree) (q : ℕ) → Holds t depthLimit p (ok (found x q)) → (y : Result (Found Trees)) → AllOf t q y
+    last : (x : Tree) (q : ℕ) → q ≡ p + length (records x) → Holds t depthLimit p (ok (found x q)) → (y : Result (Found Trees)) → AllOf t q y
         → AllOf t p (andThen y (λ xs r. ok (found (more x xs) r)))
-    last x q g (refused n a) hy = tt
-    last x q g (ok (found xs r)) hy = (
-      stands-join t p (records x) (recordsOf xs) (g .0) (subst (λ (k : ℕ). Stands t k (recordsOf xs)) (g .1) (hy .0)),
-      simp length-append (omega (arith, hy .1, g .1)),
+    last x q l g (refused n a) hy = tt
+    last x q l g (ok (found xs r)) hy = (
+      (λ e.
+          let b = both-right (costed t x p) (λ _. costedAll t xs (p + length (records x))) e in
+          stands-join t p (records x) (recordsOf xs) (g .0 (b .0))
+          (subst (λ (k : ℕ). costedAll t xs k ≡ ok tt → Stands t k (recordsOf xs)) l (hy .0) (b .1))),
+      simp length-append (omega (arith, hy .1)),
       hy .2,
-      (g .2, hy .3),
+      (g .1, hy .3),
     )
 
-    first : (y : Result (Found Tree)) → Holds t depthLimit p y → ((q : ℕ) → q ≤ length t → length t < k + q → AllOf t q (treesAt t k q))
+    first : (y : Result (Found Tree)) → Holds t depthLimit p y → Spans t p y → ((q : ℕ) → q ≤ length t → length t < k + q → AllOf t q (treesAt t k q))
         → AllOf t p (andThen y (λ x q. andThen (treesAt t k q) (λ xs r. ok (found (more x xs) r))))
-    first (refused n a) hy ih = tt
-    first (ok (found x q)) hy ih =
-        last x q hy (treesAt t k q) (ih q (rw (hy .1) (stands-length t p (records x) hp (hy .0))) (omega (arith, hy .1, some x)))
+    first (refused n a) hy s ih = tt
+    first (ok (found x q)) hy s ih = last x q (s .0) hy (treesAt t k q) (ih q (s .1) (omega (arith, s .0, some x)))
 
     at-end : (b : Bool) → ltb p (length t) ≡ b → ((q : ℕ) → q ≤ length t → length t < k + q → AllOf t q (treesAt t k q))
         → AllOf t p (cond b (andThen (treeAt t depthLimit p) (λ x q. andThen (treesAt t k q) (λ xs r. ok (found (more x xs) r)))) (ok (found none p)))
-    at-end false e ih = let l = ltb-false p (length t) e in (stands-none t p, omega arith, omega arith, tt)
-    at-end true e ih = first (treeAt t depthLimit p) (tree-holds t hb depthLimit p hp) ih
+    at-end false e ih = let l = ltb-false p (length t) e in ((λ _. stands-none t p), omega arith, omega arith, tt)
+    at-end true e ih = first (treeAt t depthLimit p) (tree-holds t hb depthLimit p hp) (tree-spans t depthLimit p hp) ih
+
+-- what is accepted has a shape, and right costs
+pub accepted-shape : (t : List ℕ) (xs : Trees) (q : ℕ) → tableOf t ≡ ok (found xs q) → (shapeOf t ≡ ok (found xs q)) × (costedAll t xs 0 ≡ ok tt)
+unfolding tableOf
+accepted-shape t xs q e = by (shapeOf t) refl e
+  where
+    costs : (ys : Trees) (r : ℕ) (z : Result (Unit {0})) → shapeOf t ≡ ok (found ys r) → costedAll t ys 0 ≡ z → ifCosted z (found ys r) ≡ ok (found xs q)
+        → (shapeOf t ≡ ok (found xs q)) × (costedAll t xs 0 ≡ ok tt)
+    costs ys r (ok u) f g k =
+        let a : ys ≡ xs = cc in
+        let b : r ≡ q = cc in (f ∙ k, subst (λ (zs : Trees). costedAll t zs 0 ≡ ok tt) a g)
+    costs ys r (refused n a) f g k = let z : _≡_ {A = ℕ} 0 1 = cc in absurd (omega arith)
+
+    by : (y : Result (Found Trees)) → shapeOf t ≡ y → andThen y (λ ys r. ifCosted (costedAll t ys 0) (found ys r)) ≡ ok (found xs q)
+        → (shapeOf t ≡ ok (found xs q)) × (costedAll t xs 0 ≡ ok tt)
+    by (ok (found ys r)) f k = costs ys r (costedAll t ys 0) f refl k
+    by (refused n a) f k = let z : _≡_ {A = ℕ} 0 1 = cc in absurd (omega arith)
 
 pub sound : (t : List ℕ) (xs : Trees) (q : ℕ) → Bytes t → tableOf t ≡ ok (found xs q) → Accepted t xs q
-unfolding tableOf
-sound t xs q hb e = by (ltb tableLimit (length t)) refl e
+unfolding shapeOf
+sound t xs q hb e = let a = accepted-shape t xs q e in by (ltb tableLimit (length t)) refl (a .0) (a .1)
   where
     by : (b : Bool) → ltb tableLimit (length t) ≡ b → cond b (refused tooLong tableLimit) (treesAt t (length t + 1) 0) ≡ ok (found xs q)
-        → Accepted t xs q
-    by true f k = let z : _≡_ {A = ℕ} 0 1 = cc in absurd (omega arith)
-    by false f k =
+        → costedAll t xs 0 ≡ ok tt → Accepted t xs q
+    by true f k r = let z : _≡_ {A = ℕ} 0 1 = cc in absurd (omega arith)
+    by false f k r =
         let h : AllOf t 0 (ok (found xs q)) = subst (AllOf t 0) k (whole-holds t hb (length t + 1) 0 (omega arith) (omega arith)) in
         record {
-          is = h .0 ∙ ap (λ (r : List ℕ). recordsOf xs ++ r) (drop-of-length-le t {i = 0 + length (recordsOf xs)} (omega (arith, h .1)))
+          is = h .0 r ∙ ap (λ (r : List ℕ). recordsOf xs ++ r) (drop-of-length-le t {i = 0 + length (recordsOf xs)} (omega (arith, h .1)))
               ∙ append-nil (recordsOf xs);
           past = h .2;
           good = h .3;

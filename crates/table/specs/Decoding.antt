@@ -1,4 +1,4 @@
--- A table decoded, once, into its trees or the first refusal (document 01, 'Order').
+-- A table decoded, once, into its trees or the first refusal (document 01, 'Order'; stored costs: document 02, 7/12).
 use Prim.Native.Nat.{ℕ, zero, suc, _+_}
 use mathlib.Core.Bool.{Bool, true, false, cond}
 use mathlib.Core.List.{List}
@@ -11,6 +11,7 @@ use Rattle.records.specs.Records.{headLen, payload}
 use Rattle.table.specs.Kinds.{integerLen, listLen}
 use Rattle.table.specs.Trees.{Tree, Trees, symbol, integer, binding, list, none, more, isSymbol}
 use Rattle.table.specs.Records.{Record, Symbol, Integer, Binding, ListOf, Bad, recordAt}
+use Rattle.table.specs.Costs.{costedAll}
 pub use Rattle.table.specs.declared.Step.{Step}
 use Rattle.table.specs.declared.Step.the-variants as step
 use Rattle.table.specs.declared.Checked.{Checked}
@@ -63,9 +64,18 @@ treesAt t (suc k) at =
     (andThen (treeAt t depthLimit at) (λ x q. andThen (treesAt t k q) (λ xs r. ok (found (more x xs) r))))
     (ok (found none at))
 
--- the trees of a table of at most 16,777,216 bytes
+-- the trees of a table of at most 16,777,216 bytes, whatever costs its lists store
+unfoldable pub shapeOf : List ℕ → Result (Found Trees)
+shapeOf t = cond (ltb tableLimit (length t)) (refused tooLong tableLimit) (treesAt t (length t + 1) 0)
+
+-- found, if the costs are right
+abbrev pub ifCosted : {A : Type 0} → Result (Unit {0}) → Found A → Result (Found A)
+ifCosted (ok u) x = ok x
+ifCosted (refused n a) x = refused n a
+
+-- every record by itself comes first, and then the costs that the lists store
 unfoldable pub tableOf : List ℕ → Result (Found Trees)
-tableOf t = cond (ltb tableLimit (length t)) (refused tooLong tableLimit) (treesAt t (length t + 1) 0)
+tableOf t = andThen (shapeOf t) (λ xs q. ifCosted (costedAll t xs 0) (found xs q))
 
 -- a table is good, or refused
 abbrev pub judged : {A : Type 0} → Result A → Result (Unit {0})

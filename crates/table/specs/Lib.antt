@@ -1,8 +1,9 @@
 pub mod Kinds
 pub mod Trees
 pub mod Records
+pub mod Costs
 pub mod Decoding
 pub mod Past
 pub mod Accepted
-pub mod PrivateWalking
+pub mod Walking
 pub mod Faults

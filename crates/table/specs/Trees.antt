@@ -1,4 +1,4 @@
--- Trees (document 01, 'Trees and their table'): what they are, which of them are good, their tokens, and their records in preorder.
+-- Trees (document 01, 'Trees and their table'): what they are, which of them are good, their tokens, their costs, and their records in preorder.
 use mathlib.Core.Path.{_≡_}
 use mathlib.Core.Bool.{Bool, true, false, _&&_}
 use mathlib.Core.List.{List, [], _∷_, _++_}
@@ -7,6 +7,7 @@ use lib.IntN.{ℤ, pos, negsuc}
 use lib.ListN.{length}
 use Rattle.classes.specs.Classes.{classOf, symbolFirst, symbolOther}
 use Rattle.wide.specs.Bytes.{le, wideBytes}
+use Rattle.wide.specs.Text.{integerText}
 use Rattle.records.specs.Records.{headLen, record-of}
 use Rattle.table.specs.Kinds.{symbolKind, integerKind, bindingKind, listKind}
 use Rattle.lexer.specs.Streams.{Series, then}
@@ -67,13 +68,25 @@ unfoldable mutual
   Goods none d = Unit {0}
   Goods (more x xs) d = Good x d × Goods xs d
 
--- a symbol: its bytes; an integer: 16 bytes; a binding: the name, its tree follows; a list: the item count, items follow
+-- costs add over the subtree: atom its length; binding name plus 3; list items plus 1 (document 01, 'How a table is laid out')
+unfoldable mutual
+  pub cost : Tree → ℕ
+  cost (symbol n) = length n
+  cost (integer z) = length (integerText z)
+  cost (binding n x) = length n + 3 + cost x
+  cost (list xs) = count xs + 1 + costs xs
+
+  pub costs : Trees → ℕ
+  costs none = 0
+  costs (more x xs) = cost x + costs xs
+
+-- a symbol: its bytes; an integer: 16 bytes; a binding: the name, its tree follows; a list: the item count and its cost (document 02, 7/12), items follow
 unfoldable mutual
   pub records : Tree → List ℕ
   records (symbol n) = record-of symbolKind n
   records (integer z) = record-of integerKind (wideBytes z)
   records (binding n x) = record-of bindingKind n ++ records x
-  records (list xs) = record-of listKind (le 4 (count xs)) ++ recordsOf xs
+  records (list xs) = record-of listKind (le 4 (count xs) ++ le 4 (cost (list xs))) ++ recordsOf xs
 
   pub recordsOf : Trees → List ℕ
   recordsOf none = []

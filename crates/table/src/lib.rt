@@ -1,4 +1,6 @@
 // The node table: its records, and the check of a whole table.
+pub mod walk;
+
 use records::HEAD;
 use records::Head;
 use refusals::Refusal;
@@ -9,9 +11,9 @@ ghost use Rattle.refusals.specs.Numbers.{depthLimit};
 ghost use Rattle.records.specs.Records.{headLen, payload};
 ghost use Rattle.table.specs.Trees.{isSymbol};
 ghost use Rattle.table.specs.Records.{recordAt};
+ghost use Rattle.table.specs.Costs.{storedCost};
 ghost use Rattle.table.specs.Decoding.{stepAt, treeAt, tableOf, judged, verdictOf};
 ghost use Rattle.table.specs.Past.{pastSymbol, pastOf};
-ghost use Rattle.table.specs.PrivateWalking.{walkOf};
 
 // The kinds of records, and the lengths of those that have a fixed one.
 pub const SYMBOL: usize = 1;
@@ -20,11 +22,13 @@ pub const INTEGER: usize = 2;
 
 pub const BINDING: usize = 3;
 
-pub const LIST: usize = 4;
+// 4 is retired: lists of that kind stored no cost.
+pub const LIST: usize = 5;
 
 pub const INTEGER_LEN: usize = HEAD + 16;
 
-pub const LIST_LEN: usize = HEAD + 4;
+// A list's item count, then its cost.
+pub const LIST_LEN: usize = HEAD + 8;
 
 pub enum Record {
     // A symbol, or a binding's name: the length of its record.
@@ -174,74 +178,52 @@ pub fn past_symbol(t: &[u8], at: usize) -> usize
     }
 }
 
-enum Walked {
-    // The place past a tree.
-    Past(usize),
-    Stopped(Refusal),
-}
-
-// The tree at `at`, with `depth` lists and bindings still to be opened.
-fn check_tree(t: &[u8], at: usize, depth: usize) -> Walked
-    ensures { λ r. ⌜ r ≡ walkOf (treeAt (now (t .entry)) depth at) ⌝ }
+// The cost that the list at `at` stores, right or not; 0 where the table ends before it.
+pub fn stored_cost(t: &[u8], at: usize) -> usize
+    ensures { λ r. ⌜ r ≡ storedCost (now (t .entry)) at ⌝ }
 {
-    let step = step_at(t, at, 0 < depth);
-    match step {
-        Step::Fault(number) => Walked::Stopped(Refusal { number, place: at }),
-        Step::Symbol(len) => Walked::Past(at + len),
-        Step::Integer => Walked::Past(at + INTEGER_LEN),
-        Step::Binding(len) => check_tree(t, at + len, depth - 1),
-        Step::List(n) => {
-            let mut p = at + LIST_LEN;
-            let mut i = 0;
-            while i < n {
-                let item = check_tree(t, p, depth - 1);
-                match item {
-                    Walked::Stopped(r) => {
-                        return Walked::Stopped(r);
-                    }
-                    Walked::Past(q) => {
-                        p = q;
-                    }
-                }
-                i += 1;
-            }
-            Walked::Past(p)
-        }
+    if at < t.len() {
+        return wide::u32_at(t, at + HEAD + 4);
     }
+    0
 }
 
 // The place past the tree at `at`, or `at` where there is none.
 pub fn past(t: &[u8], at: usize) -> usize
     ensures { λ r. ⌜ r ≡ pastOf at (treeAt (now (t .entry)) depthLimit at) ⌝ }
 {
-    let tree = check_tree(t, at, refusals::DEPTH_LIMIT);
-    match tree {
-        Walked::Past(q) => q,
-        Walked::Stopped(_) => at,
+    let tree = walk::walk_tree(t, at, refusals::DEPTH_LIMIT);
+    if 0 < tree.number {
+        return at;
     }
+    tree.place
 }
 
-// The whole table: 1, then the first refusal in the order of its records; a tree that is missing is told where its record was due.
+fn refused(number: u8, place: usize) -> Checked
+    ensures { λ r. ⌜ r ≡ Checked.Refused (record { number = number; place = place }) ⌝ }
+{
+    Checked::Refused(Refusal { number, place })
+}
+
+// The whole table: 1; then the first refusal in the order of its records, where a tree that is missing is told where its record was due; then the first wrong cost.
 pub fn check(t: &[u8]) -> Checked
     ensures { λ r. ⌜ verdictOf r ≡ judged (tableOf (now (t .entry))) ⌝ }
 {
     if refusals::TABLE_LIMIT < t.len() {
-        return Checked::Refused(Refusal {
-            number: refusals::TOO_LONG,
-            place: refusals::TABLE_LIMIT,
-        });
+        return refused(refusals::TOO_LONG, refusals::TABLE_LIMIT);
     }
     let mut p = 0;
+    let mut wrong = t.len();
     while p < t.len() {
-        let tree = check_tree(t, p, refusals::DEPTH_LIMIT);
-        match tree {
-            Walked::Stopped(r) => {
-                return Checked::Refused(r);
-            }
-            Walked::Past(q) => {
-                p = q;
-            }
+        let tree = walk::walk_tree(t, p, refusals::DEPTH_LIMIT);
+        if 0 < tree.number {
+            return refused(tree.number, tree.place);
         }
+        wrong = walk::earlier(wrong, tree.wrong, t.len());
+        p = tree.place;
+    }
+    if wrong < t.len() {
+        return refused(refusals::WRONG_COST, wrong);
     }
     Checked::Good
 }

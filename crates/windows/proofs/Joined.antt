@@ -207,7 +207,7 @@ module _ (t : List ℕ) (w total : ℕ) where
 
     module _ (q : ℕ) (hb : Bytes t) (good : tableOf t ≡ ok (found xs q)) (all : pageLooked xs w % 2 ^ 32 ≡ total) where
       start-rests : (s : State) → Begins s → Rests (started t w s) (page xs w)
-      start-rests s h = let a = sound t xs q hb good in rests (started t w s) (page xs w) (page-puts t hb w total xs s (a .good) (a .is) (h .size) all)
+      start-rests s h = let a = sound t xs q hb good in rests (started t w s) (page xs w) (page-puts t (a .small) w total xs s (a .good) (a .is) (h .size) all)
 
       -- every call on a state that calls have come to
       pub one-call : (s : State) (o b : List ℕ) → Reached s o → Told (fillOf t w s b) o b

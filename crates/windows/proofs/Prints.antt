@@ -1,5 +1,5 @@
 -- The machine at a tree's first record puts the layout of the tree, counts the records that the fits test looks at for it, and goes on with the lists that are open.
--- Assumes that the table's elements are bytes.
+-- Assumes that the table is within its limit.
 use mathlib.Core.Path.{_≡_, refl, ap, sym, subst, subst⁻¹, _∙_}
 use mathlib.Core.Bool.{Bool, true, false, cond}
 use mathlib.Core.List.{List, [], _∷_, _++_, append-assoc, append-nil}
@@ -10,24 +10,25 @@ use lib.ListN.{length, getD, set, length-append, length-set, drop-of-length-le}
 use lib.Seq.{getD-set-same, getD-set-other}
 use lib.Dec.{leb, eqb, lit<}
 use borrow.Author.Tests.{lt-ltb, le-ltb, ne-eqb, lt-leb, leb-true, leb-false}
-use Rattle.refusals.specs.Numbers.{depthLimit}
-use Rattle.wide.specs.Bytes.{Bytes, le, wideBytes}
+use Rattle.refusals.specs.Numbers.{tableLimit, depthLimit}
+use Rattle.wide.specs.Bytes.{le, wideBytes}
 use Rattle.wide.specs.Text.{integerText}
-use Rattle.wide.proofs.Numbers.{le-length, wide-length}
+use Rattle.wide.proofs.Numbers.{wide-length}
 use Rattle.wide.proofs.Decimals.{integer-low}
 use Rattle.records.specs.Records.{headLen, record-of}
 use Rattle.records.proofs.Heads.{stood, stood-payload, length-record}
 use Rattle.table.specs.Kinds.{symbolKind, integerKind, bindingKind, listKind, integerLen, listLen}
-use Rattle.table.specs.Trees.{Tree, Trees, symbol, integer, binding, list, none, more, count, isSymbol, Good, Goods, records, recordsOf}
+use Rattle.table.specs.Trees.{Tree, Trees, symbol, integer, binding, list, none, more, count, isSymbol, Good, Goods, cost, records, recordsOf}
 use Rattle.table.specs.declared.Record.{Record}
 use Rattle.table.specs.declared.Record.the-variants.{Symbol, Integer, Binding, List as ListOf}
 use Rattle.table.specs.Records.{recordAt}
 use Rattle.lists.proofs.Stands.{Stands, stands-left, stands-right, stands-length}
+use Rattle.table.proofs.Costs.{list-size}
 use Rattle.table.proofs.Heads.{Sized, good-sized, reads, value-read, some}
 use Rattle.printer.specs.Layout.{Wrapping, Wrap, SingleLine, bytes, column, breakColumn, put, nl, next, named, gap, inner, back, wrapped, fitsIn, fits, lay, items, pageFrom, page}
-use Rattle.printer.specs.Looking.{looksIn, looks, tests, looked, lookedOf, pageLooked}
+use Rattle.printer.specs.Looking.{looks, tests, looked, lookedOf, pageLooked}
 use Rattle.printer.specs.Fitting.{tested, fitsAt}
-use Rattle.printer.proofs.FitWalk.{fits-stands}
+use Rattle.printer.proofs.Fits.{fits-stands}
 use Rattle.printer.proofs.LayoutBounds.{inner-le}
 use Rattle.windows.specs.Machine.{Phase, Node, Sign, Gap, Back, Close, Line, Between, Done, Cursor, State, state, isDone, isFresh, leaves, broken, singleMargin, modeOf, nodePut, putOf, closePhase, past, testFor, marginFor, plus, held, heldDue, heldMargin, opened, nodeNext, started, nextOf}
 use Rattle.windows.proofs.Steps.{cursor}
@@ -110,15 +111,15 @@ wrap-single : SingleLine ≡ Wrap → ⊥
 wrap-single z = let y : _≡_ {A = ℕ} 0 1 = cc in omega arith
 
 -- what a column leaves of the line leaves that column, or one past the width
-left-test : (w c : ℕ) (x : Tree) → tested (fits w (leaves w (leaves w c)) x) (looks w (leaves w (leaves w c)) x) ≡ tested (fits w c x) (looks w c x)
-unfolding fitsIn looksIn
+left-test : (w c : ℕ) (x : Tree) → tested (fits w (leaves w (leaves w c)) x) (looks w (leaves w (leaves w c))) ≡ tested (fits w c x) (looks w c)
+unfolding fitsIn looks
 left-test w c x = by (leb c w) refl
   where
-    past-width : (q : ℕ) → w < q → tested (fits w q x) (looks w q x) ≡ tested false 0
+    past-width : (q : ℕ) → w < q → tested (fits w q x) (looks w q) ≡ tested false 0
     past-width q l = rw (lt-leb q w l) refl
 
-    by : (z : Bool) → leb c w ≡ z → tested (fits w (leaves w (leaves w c)) x) (looks w (leaves w (leaves w c)) x) ≡ tested (fits w c x) (looks w c x)
-    by true e = let l = leb-true c w e in let f : leaves w (leaves w c) ≡ c = omega (arith, l) in ap (λ (q : ℕ). tested (fits w q x) (looks w q x)) f
+    by : (z : Bool) → leb c w ≡ z → tested (fits w (leaves w (leaves w c)) x) (looks w (leaves w (leaves w c))) ≡ tested (fits w c x) (looks w c)
+    by true e = let l = leb-true c w e in let f : leaves w (leaves w c) ≡ c = omega (arith, l) in ap (λ (q : ℕ). tested (fits w q x) (looks w q)) f
     by false e = let l = leb-false c w e in past-width (leaves w (leaves w c)) (omega (arith, l)) ∙ sym (past-width c l)
 
 wrap-back : (m : Wrapping) (w c : ℕ) (x : Tree) → wrapped m w c x ≡ Wrap → m ≡ Wrap
@@ -139,7 +140,7 @@ plus-is u b = omega arith
 both-counts : (a b u : ℕ) → a + b + u ≡ b + (a + u)
 both-counts a b u = omega arith
 
-module _ (t : List ℕ) (hb : Bytes t) (w total : ℕ) where
+module _ (t : List ℕ) (lim : length t ≤ tableLimit) (w total : ℕ) where
   -- after a tree that ends before p at column c, whatever the stack holds above the k lists that are open, and at any indent
   abbrev pub After : ℕ → ℕ → ℕ → ℕ → List ℕ → ℕ → ℕ → List ℕ → Type 0
   After k d g u z p c o = (z′ : List ℕ) (i : ℕ) → Same k z z′ → Prints t w total (state (past (cur Node p k d g (leaves w c) i u) p (leaves w c)) z′) o
@@ -214,30 +215,27 @@ module _ (t : List ℕ) (hb : Bytes t) (w total : ℕ) where
       (rw ne refl) (omega arith) (rw (ne, e) refl) (h (i + 1) (λ y. refl))
 
   -- the cursor behind the `(` of a list of n items, by its test
-  behind : (x : Tree) (n p k d g i ind c u : ℕ) (m : Wrapping) → fitsAt t p w (leaves w (leaves w c)) ≡ tested (fits w c x) (looks w c x) → (m ≡ Wrap → ind ≡ i)
+  behind : (x : Tree) (n p k d g i ind c u : ℕ) (m : Wrapping) → fitsAt t p w (leaves w (leaves w c)) ≡ tested (fits w c x) (looks w c) → (m ≡ Wrap → ind ≡ i)
       → opened (cur Node p k d g (leaves w c) ind u) n (testFor t w (cur Node p k d g (leaves w c) ind u) m)
-      ≡ cur (cond (eqb n 0) Close Node) (p + listLen) (k + 1) (n - 1) (marginAt (wrapped m w c x) i) (leaves w c - 1) ind (tests m w c x + u)
+      ≡ cur (cond (eqb n 0) Close Node) (p + listLen) (k + 1) (n - 1) (marginAt (wrapped m w c x) i) (leaves w c - 1) ind (tests m w c + u)
   behind x n p k d g i ind c u SingleLine e h = rw (plus-is u 0) refl
-  behind x n p k d g i ind c u Wrap e h = rw (e, margin-is (fits w c x) ind i (h refl), plus-is u (looks w c x)) refl
+  behind x n p k d g i ind c u Wrap e h = rw (e, margin-is (fits w c x) ind i (h refl), plus-is u (looks w c)) refl
 
   -- a list: what is put, and the state behind its `(`
   opened-is : (xs : Trees) (a p k d g i ind c u : ℕ) (m : Wrapping) (z : List ℕ) → Good (list xs) a → p ≤ length t → Stands t p (records (list xs))
       → k < depthLimit → modeOf g ≡ m → (m ≡ Wrap → ind ≡ i)
       → (putOf t (cur Node p k d g (leaves w c) ind u) ≡ 40 ∷ [])
       × (nextOf t w (st Node p k d g (leaves w c) ind u z)
-      ≡ st (cond (eqb (count xs) 0) Close Node) (p + listLen) (k + 1) (count xs - 1) (marginAt (wrapped m w c (list xs)) i) (leaves w c - 1) ind (tests m w c (list xs) + u) (set z k (held d g)))
+      ≡ st (cond (eqb (count xs) 0) Close Node) (p + listLen) (k + 1) (count xs - 1) (marginAt (wrapped m w c (list xs)) i) (leaves w c - 1) ind (tests m w c + u) (set z k (held d g)))
   opened-is xs a p k d g i ind c u m z good hp s hk em hi =
       let sz = good-sized (list xs) a good in
       let n = node p k d g (leaves w c) ind u z (ListOf (count xs)) (reads (list xs) t p sz hp s) in
       let q : ℕ = leaves w (leaves w c) in
-      let b = behind (list xs) (count xs) p k d g i ind c u m (fits-stands t hb (list xs) p w q sz hp s ∙ left-test w c (list xs)) hi in
+      let b = behind (list xs) (count xs) p k d g i ind c u m (fits-stands t p w q xs lim hp s ∙ left-test w c (list xs)) hi in
       (n .0, n .1 ∙ rw (lt-ltb k depthLimit hk, em, b) refl)
 
   after-back : (k d g u p c : ℕ) (z y o : List ℕ) → Same k z y → After k d g u z p c o → After k d g u y p c o
   after-back k d g u p c z y o a h x j s = h x j (same-then a s)
-
-  list-size : (n p : ℕ) → p + length (record-of listKind (le 4 n)) ≡ p + listLen
-  list-size n p = rw (length-record listKind (le 4 n), le-length 4 n) refl
 
   -- a binding's name and ` @ `
   bound : (p k d g ind u c : ℕ) (z n b o : List ℕ) (x : Tree) → Sized (binding n x) → p ≤ length t → Stands t p (records (binding n x)) → 0 < length n
@@ -294,10 +292,10 @@ module _ (t : List ℕ) (hb : Bytes t) (w total : ℕ) where
         let op = opened-is xs a p k d g i ind c u m z good hp s (omega (arith, b)) em hin in
         let mm : Wrapping = wrapped m w c (list xs) in
         let f : leaves w c - 1 ≡ leaves w (c + 1) = omega arith in
-        let v : ℕ = tests m w c (list xs) + u in
+        let v : ℕ = tests m w c + u in
         let l : ℕ = lookedOf xs true mm w i (c + 1) in
-        let hd1 : List ℕ = record-of listKind (le 4 n) in
-        let e : p + length hd1 ≡ p + listLen = list-size n p in
+        let hd1 : List ℕ = record-of listKind (le 4 n ++ le 4 (cost (list xs))) in
+        let e : p + length hd1 ≡ p + listLen = ap (λ (j : ℕ). p + j) (list-size n (cost (list xs))) in
         let s1 : Stands t (p + listLen) (recordsOf xs) = subst (λ (j : ℕ). Stands t j (recordsOf xs)) e (stands-right t p hd1 (recordsOf xs) s) in
         let hp1 : p + listLen ≤ length t = omega (arith, e, stands-length t p hd1 hp (stands-left t p hd1 (recordsOf xs) s)) in
         let q : p + length (hd1 ++ recordsOf xs) ≡ p + listLen + length (recordsOf xs) = simp length-append (omega (arith, e)) in
@@ -309,7 +307,7 @@ module _ (t : List ℕ) (hb : Bytes t) (w total : ℕ) where
         (op .1 ∙ ap s2 f)
         (firsts xs (a - 1) (p + listLen) k d g i ind (c + 1) v mm y o (good .2) (good .1) hp1 s1 (omega (arith, b)) (omega (arith, b)) (sm .size)
         (kept-set z k d g (omega (arith, b)) (hd .0) (hd .1)) (λ r. hin (wrap-back m w c (list xs) r))
-        (after-back k d g (l + v) (p + listLen + length (recordsOf xs)) c2 z y o sm (after-at k d g c2 z o _ _ _ _ (both-counts (tests m w c (list xs)) l u) q h)))
+        (after-back k d g (l + v) (p + listLen + length (recordsOf xs)) c2 z y o sm (after-at k d g c2 z o _ _ _ _ (both-counts (tests m w c) l u) q h)))
 
     -- behind the `(` of a list, around which d items are due at margin g
     pub firsts : (xs : Trees) (a p k d g i ind c u : ℕ) (m : Wrapping) (z o : List ℕ) → Goods xs a → count xs < 4294967296 → p ≤ length t → Stands t p (recordsOf xs)

@@ -29,22 +29,23 @@ pub enum Phase {
     Done,
 }
 
+// The small fields stand first, side by side: bytes between fields would be moved with every put.
 pub struct Cursor {
     pub phase: Phase,
+    // Of the innermost open list its indent, or 255 if it is on a single line.
+    pub margin: u8,
+    // The indent of the next record.
+    pub indent: u8,
+    // Of the innermost list the items still due.
+    pub due: u32,
+    // The records that the fits test has looked at.
+    pub looked: u32,
     // The place of the next record.
     pub at: usize,
     // The lists that are open.
     pub depth: usize,
-    // Of the innermost the items still due.
-    pub due: u32,
-    // The records that the fits test has looked at.
-    pub looked: u32,
-    // Of the innermost its indent, or 255 if it is on a single line.
-    pub margin: u8,
     // Width + 1 - column: 0 past the width.
     pub left: usize,
-    // The indent of the next record.
-    pub indent: u8,
     // The bytes that were given of what is put next.
     pub given: usize,
 }

@@ -12,11 +12,11 @@ use Rattle.lists.proofs.Choice.{eqb-turn}
 use Rattle.printer.specs.Layout.{Wrap, bytes, gap}
 use Rattle.printer.specs.PrivateWriting.{laid}
 use Rattle.printer.proofs.CheckedRecords.{bad-found, symbol-found, integer-found, binding-found, list-found, list-small, found-end}
-use Rattle.printer.proofs.FitWalk.{fits-right}
+use Rattle.printer.proofs.Fits.{fits-right, list-cost, binding-cost}
 use Rattle.printer.proofs.ListTexts.{broken, laid-symbol, laid-integer, laid-binding}
 use Rattle.printer.proofs.LayoutBounds.{inner-le}
 use Rattle.printer.proofs.LookedBound.{right-looked}
-use Rattle.printer.proofs.ListCounting.{seen-symbol, seen-integer, atom-seen, binding-seen, fitting-seen, wrapped-seen, Counting, counting-begin, counting-step, counting-le, counting-end}
+use Rattle.printer.proofs.ListCounting.{seen-symbol, seen-integer, atom-seen, binding-seen, fitting-seen, wrapped-seen, Counting, counting-begin, counting-cost, counting-step, counting-le, counting-end}
 use Rattle.printer.proofs.ListWriting.{atom-written, binding-size, binding-written, Filling, filling-begin, filling-item, filling-step, end-size, filling-end}
 use Rattle.printer.proofs.ListWriting.{fitting-written, wrapped-text, wrapped-ready, wrapped-item}
 use Rattle.printer.proofs.print_wrapped.Reads as print-wrapped
@@ -130,7 +130,7 @@ print-wrapped-requires t c κs =
     (λ x. laid-binding _ x (s .args .width) (s .args .indent) (s .args .column) _ (k .0)) h _ (k .0) in
     let b = binding-in _ _ _ _ (c .before .before .before .before .before .before .before .before .before .record-at .ensures) (c .before .before .before .before .before .before .before .node2 .given .1) in
     let d = h .deeper in
-    (omega (arith, s .pre .0), (omega arith, r .1, omega arith, h .right, omega (arith, e, r .4)))
+    (omega (arith, s .pre .0), (omega arith, r .1, omega arith, h .right, omega (arith, e, r .4), binding-cost _ _ _ _ _ _ (b .0) (omega arith) h (r .5)))
 
 add-t38 : (t : ℕ) → print-wrapped-lts.Need-add-t38 (calls t) (print-wrapped-at t) print-wrapped.Post Inv-loop μ-loop
 add-t38 t c =
@@ -159,7 +159,7 @@ returns t c =
     let s = c .before .before .before .before .before .before .before .before .before .before .before .before in
     let r = s .pre .1 in
     let h = list-found _ _ _ _ (r .3) (c .before .before .before .before .before .before .before .before .before .record-at .ensures) _ (c .before .before .before .before .before .before .before .node3 .given .1) in
-    let g = fits-right (s .args .t .now) (λ i. (c .before .before .before .before .before .before .before .before .before .before .before .shared-slice-known .given i) .fits) (s .args .depth) (s .args .at) (s .args .width) (s .args .column) _ (c .before .before .before .before .before .fits2 .ensures) (r .0) (r .3) in
+    let g = fits-right (s .args .t .now) (s .args .at) (s .args .width) (s .args .column) _ _ _ h (r .5) _ (c .before .before .before .before .before .fits2 .ensures) in
     let f = sym (g .0) ∙ c .before .before .before .before .if1 .taken in
     (fitting-written _ _ _ (s .args .width) (s .args .indent) (s .args .column) h f _ _ (s .args .out .now) _ (c .before .before .print-flat .ensures), fitting-seen _ _ _ (s .args .width) (s .args .indent) (s .args .column) _ h (g .1) f)
 
@@ -174,16 +174,16 @@ loop-holds t c =
     let s = c .before .before .before .before .before .before .before .before .before .before .before .before in
     let r = s .pre .1 in
     let h = list-found _ _ _ _ (r .3) (c .before .before .before .before .before .before .before .before .before .record-at .ensures) _ (c .before .before .before .before .before .before .before .node3 .given .1) in
-    let g = fits-right (s .args .t .now) (λ i. (c .before .before .before .before .before .before .before .before .before .before .before .shared-slice-known .given i) .fits) (s .args .depth) (s .args .at) (s .args .width) (s .args .column) _ (c .before .before .before .before .before .fits2 .ensures) (r .0) (r .3) in
+    let g = fits-right (s .args .t .now) (s .args .at) (s .args .width) (s .args .column) _ _ _ h (r .5) _ (c .before .before .before .before .before .fits2 .ensures) in
     let no = sym (g .0) ∙ c .before .before .before .before .if1 .left in
     let f = wrapped-text _ _ _ (s .args .width) (s .args .indent) (s .args .column) h no in
     let b = list-in _ _ _ _ (c .before .before .before .before .before .before .before .before .before .record-at .ensures) (c .before .before .before .before .before .before .before .node3 .given .1) in
-    let m = right-looked (s .args .t .now) (s .args .depth) (s .args .at) (s .args .width) (s .args .indent) (s .args .column) (λ i. (c .before .before .before .before .before .before .before .before .before .before .before .shared-slice-known .given i) .fits) (r .0) (omega arith) (r .3) in
+    let m = right-looked (s .args .t .now) (s .args .depth) (s .args .at) (s .args .width) (s .args .indent) (s .args .column) (r .0) (r .3) in
     let e = wrapped-seen _ _ _ (s .args .width) (s .args .indent) (s .args .column) _ h (g .1) no in
     let q = found-end (s .args .t .now) (s .args .depth) (s .args .at) (r .0) (r .3) in (
       filling-begin (s .args .t .now) (s .args .at) (s .args .depth) _ (broken (s .args .width) (s .args .indent) (s .args .column + 1)) (s .args .column)
           (laid (s .args .width) (s .args .indent) (s .args .column)) f _ _ h (r .4) (omega arith) (c .before .before .put-byte .ensures .0),
-      counting-begin (s .args .t .now) (s .args .at) (s .args .depth) _ (s .args .width) (s .args .indent) (s .args .column + 1) _ (h .right) (omega (arith, e, m, q, r .1)),
+      counting-begin (s .args .t .now) (s .args .at) (s .args .depth) _ (s .args .width) (s .args .indent) (s .args .column + 1) _ (h .right) (list-cost _ _ _ _ _ h (r .5)) (omega (arith, b)) (omega (arith, e, m, q, r .1)),
     )
 
 least-requires-2 : (t : ℕ) → print-wrapped-lts.Need-least-requires-2 (calls t) (print-wrapped-at t) print-wrapped.Post Inv-loop μ-loop
@@ -238,12 +238,13 @@ part-print-wrapped-end-2 t c = search needs
 print-wrapped-requires-2 : (t : ℕ) → print-wrapped-lts.Need-print-wrapped-requires-2 (calls t) (print-wrapped-at t) print-wrapped.Post Inv-loop μ-loop
 print-wrapped-requires-2 t c κs =
     let v = c .before .before .before .before .before .before .before .before .before .before .loop .inv .0 in
+    let u = c .before .before .before .before .before .before .before .before .before .before .loop .inv .1 in
     let l = c .before .before .before .before .before .before .before .before .before .loop-test .taken in
     let s = c .before .before .before .before .before .before .before .before .before .before .before .before .before .before .before .before .before .before .before .before .before .before .before in
     let r = s .pre .1 in
     let d = v .deeper in
     let j = c .before .before .item-indent .ensures in
-    (omega (arith, s .pre .0), (v .within, r .1, omega (arith, r .2, j, inner-le (eqb (c .before .before .before .before .before .before .before .before .before .before .loop .i) 0) Wrap (s .args .indent)), filling-item v l .right, wrapped-ready (s .args .width) (s .args .indent) v l _ _ j (c .before .item-column .ensures)))
+    (omega (arith, s .pre .0), (v .within, r .1, omega (arith, r .2, j, inner-le (eqb (c .before .before .before .before .before .before .before .before .before .before .loop .i) 0) Wrap (s .args .indent)), filling-item v l .right, wrapped-ready (s .args .width) (s .args .indent) v l _ _ j (c .before .item-column .ensures), counting-cost u l (filling-item v l .right)))
 
 add-w : (t : ℕ) → print-wrapped-lts.Need-add-w (calls t) (print-wrapped-at t) print-wrapped.Post Inv-loop μ-loop
 add-w t c =
@@ -344,7 +345,7 @@ returns-6 t c =
     let s = c .before .before .before .before .before .before .before .before .before .before .before .before .before .before .before .before .before .before .before in
     let r = s .pre .1 in
     let h = list-found _ _ _ _ (r .3) (c .before .before .before .before .before .before .before .before .before .before .before .before .before .before .before .before .record-at .ensures) _ (c .before .before .before .before .before .before .before .before .before .before .before .before .before .before .node3 .given .1) in
-    let g = fits-right (s .args .t .now) (λ i. (c .before .before .before .before .before .before .before .before .before .before .before .before .before .before .before .before .before .before .shared-slice-known .given i) .fits) (s .args .depth) (s .args .at) (s .args .width) (s .args .column) _ (c .before .before .before .before .before .before .before .before .before .before .before .before .fits2 .ensures) (r .0) (r .3) in
+    let g = fits-right (s .args .t .now) (s .args .at) (s .args .width) (s .args .column) _ _ _ h (r .5) _ (c .before .before .before .before .before .before .before .before .before .before .before .before .fits2 .ensures) in
     let no = sym (g .0) ∙ c .before .before .before .before .before .before .before .before .before .before .before .if1 .left in
     let f = wrapped-text _ _ _ (s .args .width) (s .args .indent) (s .args .column) h no in
     let o = c .before .before .before .before .before .before .loop .inv in (

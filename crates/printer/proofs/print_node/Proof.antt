@@ -30,7 +30,7 @@ print-wrapped-requires : tie.Need-print-wrapped-requires
 print-wrapped-requires c κs =
     let s = c .before .before .before .before .before .before .before .before in
     let l = right-len (s .args .t .now) _ (s .args .at) Wrap (s .args .width) 0 0 (λ i. (c .before .before .before .before .before .before .before .shared-slice-known .given i) .fits) (s .pre .0) (lit≤ tt) (s .pre .2) in
-    (s .pre .0, s .pre .1, lit≤ tt, s .pre .2, omega (arith, s .pre .1))
+    (s .pre .0, s .pre .1, lit≤ tt, s .pre .2, omega (arith, s .pre .1), s .pre .3)
 
 add-end : tie.Need-add-end
 add-end c =

@@ -7,7 +7,7 @@ use lib.Dec.{lit≤}
 use Rattle.printer.specs.Layout.{Wrap}
 use Rattle.printer.proofs.LayoutBounds.{right-len}
 use Rattle.printer.proofs.LookedBound.{right-looked}
-use Rattle.printer.proofs.PageWriting.{Pages, pages-begin, pages-tree, pages-step, pages-end, pages-within, pages-limit}
+use Rattle.printer.proofs.PageWriting.{Pages, pages-begin, pages-tree, pages-cost, pages-step, pages-end, pages-within, pages-limit}
 use Rattle.printer.proofs.print_trees.Statement.{statement}
 use Rattle.printer.proofs.print_trees.Tie as tie
 
@@ -33,14 +33,14 @@ part-print-node-end : tie.Need-part-print-node-end Inv-loop μ-loop
 part-print-node-end c = search needs
 
 print-node-requires : tie.Need-print-node-requires Inv-loop μ-loop
-print-node-requires c κs = let v = c .before .before .before .loop .inv in (pages-within v, pages-limit v, pages-tree v (c .before .before .loop-test .taken))
+print-node-requires c κs = let v = c .before .before .before .loop .inv in (pages-within v, pages-limit v, pages-tree v (c .before .before .loop-test .taken), pages-cost v (c .before .before .loop-test .taken))
 
 add-w : tie.Need-add-w Inv-loop μ-loop
 add-w c =
     let v = c .before .before .before .before .before .before .before .loop .inv in
     let s = c .before .before .before .before .before .before .before .before .before .before in
     let l = right-len (s .args .t .now) _ (c .before .before .before .before .before .before .before .loop .p) Wrap (s .args .width) 0 0 (λ i. (c .before .before .before .before .before .before .before .before .before .shared-slice-known .given i) .fits) (pages-within v) (lit≤ tt) (pages-tree v (c .before .before .before .before .before .before .loop-test .taken)) in
-    let m = right-looked (s .args .t .now) _ (c .before .before .before .before .before .before .before .loop .p) (s .args .width) 0 0 (λ i. (c .before .before .before .before .before .before .before .before .before .shared-slice-known .given i) .fits) (pages-within v) (lit≤ tt) (pages-tree v (c .before .before .before .before .before .before .loop-test .taken)) in
+    let m = right-looked (s .args .t .now) _ (c .before .before .before .before .before .before .before .loop .p) (s .args .width) 0 0 (pages-within v) (pages-tree v (c .before .before .before .before .before .before .loop-test .taken)) in
     let n = pages-step v (c .before .before .before .before .before .before .loop-test .taken) _ _ _ _ _ (c .before .before .before .print-node .ensures) l m (c .before .before .before .before .before .least .ensures .1) (c .before .before .out .given .1) in
     omega (arith, n .small, pages-within n, pages-limit v)
 
@@ -49,7 +49,7 @@ add-looked c =
     let v = c .before .before .before .before .before .before .before .before .loop .inv in
     let s = c .before .before .before .before .before .before .before .before .before .before .before in
     let l = right-len (s .args .t .now) _ (c .before .before .before .before .before .before .before .before .loop .p) Wrap (s .args .width) 0 0 (λ i. (c .before .before .before .before .before .before .before .before .before .before .shared-slice-known .given i) .fits) (pages-within v) (lit≤ tt) (pages-tree v (c .before .before .before .before .before .before .before .loop-test .taken)) in
-    let m = right-looked (s .args .t .now) _ (c .before .before .before .before .before .before .before .before .loop .p) (s .args .width) 0 0 (λ i. (c .before .before .before .before .before .before .before .before .before .before .shared-slice-known .given i) .fits) (pages-within v) (lit≤ tt) (pages-tree v (c .before .before .before .before .before .before .before .loop-test .taken)) in
+    let m = right-looked (s .args .t .now) _ (c .before .before .before .before .before .before .before .before .loop .p) (s .args .width) 0 0 (pages-within v) (pages-tree v (c .before .before .before .before .before .before .before .loop-test .taken)) in
     let n = pages-step v (c .before .before .before .before .before .before .before .loop-test .taken) _ _ _ _ _ (c .before .before .before .before .print-node .ensures) l m (c .before .before .before .before .before .before .least .ensures .1) (c .before .before .before .out .given .1) in
     omega (arith, n .few, pages-within n, pages-limit v)
 
@@ -65,7 +65,7 @@ loop-again c =
     let v = c .before .before .before .before .before .before .before .before .loop .inv in
     let s = c .before .before .before .before .before .before .before .before .before .before .before in
     let l = right-len (s .args .t .now) _ (c .before .before .before .before .before .before .before .before .loop .p) Wrap (s .args .width) 0 0 (λ i. (c .before .before .before .before .before .before .before .before .before .before .shared-slice-known .given i) .fits) (pages-within v) (lit≤ tt) (pages-tree v (c .before .before .before .before .before .before .before .loop-test .taken)) in
-    let m = right-looked (s .args .t .now) _ (c .before .before .before .before .before .before .before .before .loop .p) (s .args .width) 0 0 (λ i. (c .before .before .before .before .before .before .before .before .before .before .shared-slice-known .given i) .fits) (pages-within v) (lit≤ tt) (pages-tree v (c .before .before .before .before .before .before .before .loop-test .taken)) in
+    let m = right-looked (s .args .t .now) _ (c .before .before .before .before .before .before .before .before .loop .p) (s .args .width) 0 0 (pages-within v) (pages-tree v (c .before .before .before .before .before .before .before .loop-test .taken)) in
     pages-step v (c .before .before .before .before .before .before .before .loop-test .taken) _ _ _ _ _ (c .before .before .before .before .print-node .ensures) l m (c .before .before .before .before .before .before .least .ensures .1) (c .before .before .before .out .given .1)
 
 same-length : tie.Need-same-length Inv-loop μ-loop

@@ -2,7 +2,7 @@
 use mathlib.Core.Path.{ap, _∙_}
 use borrow.Author.Needs.{needs}
 use Rattle.table.specs.Trees.{isSymbol}
-use Rattle.table.proofs.Checking.{part}
+use Rattle.table.proofs.Names.{part}
 use Rattle.table.proofs.is_name.Statement.{statement}
 use Rattle.table.proofs.is_name.Tie as tie
 

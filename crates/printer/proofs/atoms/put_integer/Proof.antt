@@ -3,7 +3,7 @@ use mathlib.Core.Path.{ap}
 use native.Mathlib.Omega.{arith}
 use borrow.Author.Needs.{needs}
 use Rattle.wide.specs.Text.{integerText}
-use Rattle.printer.proofs.CheckedRecords.{integer-value}
+use Rattle.table.proofs.Walks.{integer-value}
 use Rattle.lists.proofs.Rooms.{puts-fitted}
 use Rattle.printer.proofs.atoms.put_integer.Statement.{statement}
 use Rattle.printer.proofs.atoms.put_integer.Tie as tie

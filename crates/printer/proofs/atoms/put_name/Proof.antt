@@ -9,7 +9,7 @@ use Rattle.lists.specs.Over.{over}
 use Rattle.lists.proofs.Writing.{Wrote}
 use Rattle.records.specs.Records.{headLen, payload}
 use Rattle.lists.proofs.Stands.{part-size}
-use Rattle.table.proofs.Checking.{part}
+use Rattle.table.proofs.Names.{part}
 use Rattle.lists.proofs.Blocks.{copied}
 use Rattle.printer.proofs.ShortRooms.{wrote-three}
 use Rattle.printer.proofs.LayoutBounds.{named-size}

@@ -1,6 +1,6 @@
 -- `printer::atoms::put_symbol`: the bytes behind the head.
 use borrow.Author.Needs.{needs}
-use Rattle.table.proofs.Checking.{part}
+use Rattle.table.proofs.Names.{part}
 use Rattle.lists.proofs.Rooms.{puts-fitted}
 use Rattle.printer.proofs.atoms.put_symbol.Statement.{statement}
 use Rattle.printer.proofs.atoms.put_symbol.Tie as tie

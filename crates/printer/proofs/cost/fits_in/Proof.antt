@@ -1,6 +1,6 @@
 -- `printer::cost::fits_in`: never past the width, and else by what is left of it.
 use borrow.Author.Needs.{needs}
-use Rattle.printer.proofs.FitWalk.{fits-past, fits-test}
+use Rattle.printer.proofs.Fits.{fits-past, fits-test}
 use Rattle.printer.proofs.cost.fits_in.Statement.{statement}
 use Rattle.printer.proofs.cost.fits_in.Tie as tie
 

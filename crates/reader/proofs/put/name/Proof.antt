@@ -1,5 +1,5 @@
 -- `reader::put::name`: what is put into the rest of the room stands behind what it held before.
-use mathlib.Core.Path.{_≡_, ap, _∙_}
+use mathlib.Core.Path.{_≡_, refl, ap, _∙_}
 use mathlib.Core.List.{List, [], _++_, append-nil}
 use Prim.Native.Nat.{ℕ, _+_, _-_, _≤_}
 use native.Mathlib.Omega.{arith}
@@ -24,16 +24,18 @@ behind o b ys p e h =
     rw (nothing, append-nil) (ap (λ (r : List ℕ). take p b ++ r) y)
 
 returns : tie.Need-returns
-returns c h =
-    let a = c .before .before .before .before .before .before .before .before .args in
-    behind (record-of (a .kind) (take (a .end - a .start) (drop (a .start) (a .src .now)))) (a .buf .now) _ (a .at) (c .before .before .put .ensures) h
+returns c =
+    let a = c .before .before .before .before .before .before .before .before .args in (
+      (omega arith, λ _. refl),
+      λ h. behind (record-of (a .kind) (take (a .end - a .start) (drop (a .start) (a .src .now)))) (a .buf .now) _ (a .at) (c .before .before .put .ensures) h,
+    )
 
 returns-2 : tie.Need-returns-2
-returns-2 c h =
+returns-2 c =
     let a = c .before .before .before in
     let n = length-record (a .args .kind) (take (a .args .end - a .args .start) (drop (a .args .start) (a .args .src .now))) in
     let k = part-size (a .args .src .now) (a .args .start) (a .args .end - a .args .start) (omega (arith, a .pre)) in
-    absurd (omega (arith, c .if1 .left))
+    ((omega arith, λ h. absurd (omega (arith, c .if1 .left))), λ h. absurd (omega (arith, c .if1 .left)))
 
 pub name-spec : {M : Type 1} → statement M
 name-spec =
@@ -49,6 +51,7 @@ name-spec =
     (λ c. search needs)
     (λ c. search needs)
     (λ c κs. search needs)
+    (λ c. search needs)
     (λ c. search needs)
     returns
     returns-2)

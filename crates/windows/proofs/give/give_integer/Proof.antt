@@ -6,7 +6,7 @@ use mathlib.Core.List.{List}
 use denote.Ref.{now}
 use lib.ListN.{length, replicate}
 use Rattle.wide.specs.Text.{integerText}
-use Rattle.printer.proofs.CheckedRecords.{integer-value}
+use Rattle.table.proofs.Walks.{integer-value}
 use Rattle.windows.specs.PrivateGiving.{Given}
 use Rattle.windows.proofs.Giving.{integer-room}
 use borrow.Author.Needs.{needs}

@@ -8,7 +8,8 @@ use lib.IntN.{ℤ}
 use Rattle.wide.specs.Text.{integerText}
 use Rattle.table.specs.Kinds.{integerLen}
 use Rattle.table.proofs.Reading.{symbol-in, binding-in, integer-in, list-in as list-within}
-use Rattle.printer.proofs.CheckedRecords.{list-small, integer-value}
+use Rattle.printer.proofs.CheckedRecords.{list-small}
+use Rattle.table.proofs.Walks.{integer-value}
 use Rattle.windows.specs.Machine.{Sign, Cursor, state, moved, past, nodeNext}
 use borrow.Author.Needs.{needs}
 use Rattle.windows.proofs.machine.node_next.Statement.{statement}
