@@ -9,7 +9,7 @@ use crate::token::{Answer, LIMIT, Lexed, Refusal, refusal};
 use crate::tree::Tree;
 use crate::windows::{self, Calls};
 
-/// A print that succeeds: its text, and the records that the fits test looks at for it.
+/// A print that succeeds: its text, and how many costs the fits test looks at for it.
 pub struct Printed {
     pub text: Vec<u8>,
     pub looked: usize,
@@ -23,7 +23,7 @@ pub trait Side {
     fn feeder(&self, source: &[u8]) -> Box<dyn Feeder>;
     /// The whole table, or the first of 3 to 13.
     fn read(&self, source: &[u8]) -> Result<Vec<u8>, Refusal>;
-    /// The table's trees, or the first of 15, 20, 21, 13 and 16; or 22.
+    /// The table's trees, or the first of 15, 20, 21, 13 and 16; or 22; or 25.
     fn check(&self, table: &[u8]) -> Result<Vec<Tree>, Refusal>;
     /// All trees' text at this width, with its count.
     fn lay_out(&self, trees: &[Tree], width: usize) -> Printed;
@@ -112,7 +112,7 @@ pub fn shown(word: &str, bytes: &[u8], out: &mut Vec<u8>) {
     out.push(b'\n');
 }
 
-/// The records that the fits test looked at.
+/// How many costs the fits test looked at.
 pub fn looked(count: usize, out: &mut Vec<u8>) {
     writeln!(out, "looked {count}").expect("a vector takes every byte");
 }

@@ -7,7 +7,7 @@ pub const USAGE: &str = "usage:
       runs N cases of each op (else 200,000, of S 1,000,000, of T and t 400,000), from number K on, through the probe and stops at the first difference
   oracle sample [--ops ...] [--cases N] [--seed S] [--families A,B] FRAMES EXPECTED
       writes a fixed sample of N cases of each op: the frames to one file, the answers to the other
-families: pieces literals comments text damaged bytes trees real limit (sources), small tables broken looks (tables), lowest (tables, and sources of W), orders cuts changed files (settings)";
+families: pieces literals comments text damaged bytes trees real limit (sources), small tables broken looks costs (tables), lowest (tables, and sources of W), orders cuts changed files (settings)";
 
 pub struct Options {
     pub ops: Vec<u8>,

@@ -2,6 +2,8 @@
 
 pub const DEPTH: usize = 64;
 pub const TABLE_LIMIT: usize = 16_777_216;
+/// The kind of a list's record; document 01's kind 4, which held no cost, is unknown now.
+pub const LIST: u16 = 5;
 
 #[derive(Clone, Debug, PartialEq, Eq)]
 pub enum Tree {
@@ -18,7 +20,12 @@ pub fn put_record(table: &mut Vec<u8>, kind: u16, payload: &[u8]) {
     table.extend(payload);
 }
 
-/// A tree's records in preorder.
+/// A list's record: how many items follow, and the cost that is kept with the list, right or not (document 02, 7/12).
+pub fn put_list(table: &mut Vec<u8>, items: u32, cost: u32) {
+    put_record(table, LIST, &[items.to_le_bytes(), cost.to_le_bytes()].concat());
+}
+
+/// A tree's records in preorder, with the right costs.
 pub fn put_tree(table: &mut Vec<u8>, tree: &Tree) {
     match tree {
         Tree::Symbol(bytes) => put_record(table, 1, bytes),
@@ -28,7 +35,7 @@ pub fn put_tree(table: &mut Vec<u8>, tree: &Tree) {
             put_tree(table, inner);
         }
         Tree::List(items) => {
-            put_record(table, 4, &(items.len() as u32).to_le_bytes());
+            put_list(table, items.len() as u32, in_4_bytes(cost(tree)));
             items.iter().for_each(|item| put_tree(table, item));
         }
     }
@@ -48,7 +55,7 @@ pub fn int_text(value: i128) -> String {
     }
 }
 
-/// Document 01's cost: what the fits test adds up over a subtree.
+/// Document 01's cost, added up over a subtree: what a list stores and its fits test looks at.
 pub fn cost(tree: &Tree) -> usize {
     match tree {
         Tree::Symbol(bytes) => bytes.len(),
@@ -56,4 +63,10 @@ pub fn cost(tree: &Tree) -> usize {
         Tree::Binding(name, inner) => name.len() + 3 + cost(inner),
         Tree::List(items) => items.iter().map(cost).sum::<usize>() + items.len() + 1,
     }
+}
+
+/// A cost as a record holds it. No record costs twice its bytes: an integer, the dearest, has at most 40 for its 22, and 1 more that its list adds
+/// for it. So a table of at most 16,777,216 bytes has no cost of 2^25, let alone of 2^32.
+pub fn in_4_bytes(cost: usize) -> u32 {
+    u32::try_from(cost).expect("a table within its limit has no such cost")
 }

@@ -2,6 +2,8 @@
 //! They come first in every comparison and sample, and the tests hold both sides against them.
 
 // by their paths, for host/src names this file by its own
+#[path = "worked/costs.rs"]
+mod costs;
 #[path = "worked/counts.rs"]
 mod counts;
 #[path = "worked/lowest.rs"]
@@ -20,6 +22,11 @@ fn case(op: char, a: u32, b: u32, bytes: impl Into<Vec<u8>>, lines: impl Into<St
     (op, a, b, bytes.into(), lines.into())
 }
 
+/// The record of a list of so many items, which stores this cost.
+const fn list(items: u8, cost: u8) -> [u8; 14] {
+    [14, 0, 0, 0, 5, 0, items, 0, 0, 0, cost, 0, 0, 0]
+}
+
 fn cases() -> Vec<Case> {
     let mut cases = lexing();
     cases.extend(calls());
@@ -29,6 +36,7 @@ fn cases() -> Vec<Case> {
     cases.extend(windows::cases());
     cases.extend(counts::cases());
     cases.extend(lowest::cases());
+    cases.extend(costs::cases());
     cases.extend(settings::cases());
     cases
 }
@@ -122,8 +130,8 @@ fn reading() -> Vec<Case> {
         [open.repeat(depth), inside.to_string(), close.repeat(depth)].concat()
     };
     let cases: Vec<(u32, String, &str)> = vec![
-        (24, "x @ (a)".into(), "table 24\n070000000300780a00000004000100000007000000010061\nkept"),
-        (23, "x @ (a)".into(), "refusal 14 at 24\nkept"),
+        (28, "x @ (a)".into(), "table 28\n070000000300780e0000000500010000000300000007000000010061\nkept"),
+        (27, "x @ (a)".into(), "refusal 14 at 28\nkept"),
         (0, "".into(), "table 0\n\nkept"),
         (9, "x @ )".into(), "refusal 12 at 4\nkept"),
         (9, "((a)".into(), "refusal 10 at 0\nkept"),
@@ -136,7 +144,7 @@ fn reading() -> Vec<Case> {
         (9, "x @ (;".into(), "refusal 4 at 4\nkept"),
         (9, "(x @ ;c".into(), "refusal 12 at 7\nkept"),
         (9, "(x @ 1".into(), "refusal 10 at 0\nkept"),
-        (9, nest("(", 64, "", ")"), "refusal 14 at 640\nkept"),
+        (9, nest("(", 64, "", ")"), "refusal 14 at 896\nkept"),
         (9, nest("(", 65, "", ")"), "refusal 13 at 64\nkept"),
         (9, nest("x@", 65, "a", ""), "refusal 13 at 128\nkept"),
         (9, nest("(", 64, "a\x0c@", ")"), "refusal 3 at 65\nkept"),
@@ -144,9 +152,11 @@ fn reading() -> Vec<Case> {
     ];
     let mut all: Vec<Case> =
         cases.into_iter().map(|(a, source, lines)| case('R', a, 0, source, lines)).collect();
-    // 64 lists, each but the innermost with one item
-    let lines = format!("table 640\n{}0a000000040000000000\nkept", "0a000000040001000000".repeat(63));
-    all.push(case('R', 640, 0, nest("(", 64, "", ")"), lines));
+    // 64 lists, each but the innermost with one item and at a cost of 2 more than the next
+    let around: String =
+        (1..64).rev().map(|j| format!("0e000000050001000000{:02x}000000", 2 * j + 1)).collect();
+    let lines = format!("table 896\n{around}0e00000005000000000001000000\nkept");
+    all.push(case('R', 896, 0, nest("(", 64, "", ")"), lines));
     all
 }
 
@@ -173,9 +183,9 @@ fn printing() -> Vec<Case> {
         p(9, 9, "\x05\0\0\0\x01\0", "refusal 15 at 0\nkept"),
         p(9, 9, "\x07\0\0\0\x03\0x", "refusal 22 at 7\nkept"),
         p(9, 9, "\x07\0\0\0\x03\0x\x07", "refusal 15 at 7\nkept"),
-        p(9, 9, "\x06\0\0\0\x05\0", "refusal 20 at 0\nkept"),
-        p(9, 9, "\x05\0\0\0\x05\0", "refusal 15 at 0\nkept"),
-        p(9, 9, "\x0b\0\0\0\x04\0\0\0\0\0\0", "refusal 21 at 0\nkept"),
+        p(9, 9, "\x06\0\0\0\x06\0", "refusal 20 at 0\nkept"),
+        p(9, 9, "\x05\0\0\0\x06\0", "refusal 15 at 0\nkept"),
+        p(9, 9, "\x0b\0\0\0\x05\0\0\0\0\0\0", "refusal 21 at 0\nkept"),
         p(9, 9, "\x07\0\0\0\x03\0x\x07\0\0\0\x01\0;", "refusal 16 at 7\nkept"),
     ]
 }
@@ -185,24 +195,24 @@ fn checking() -> Vec<Case> {
     let k = |a, table: &[u8], lines: &str| case('K', a, 0, table, lines);
     vec![
         k(0, b"", "good"),
-        k(0, b"\x07\0\0\0\x03\0x\x0a\0\0\0\x04\0\x01\0\0\0\x07\0\0\0\x01\0a", "good"),
+        k(0, &[&b"\x07\0\0\0\x03\0x"[..], &list(1, 3), b"\x07\0\0\0\x01\0a"].concat(), "good"),
         k(0, &b"\x07\0\0\0\x03\0n".repeat(65), "refusal 13 at 448"),
-        k(0, &b"\x0a\0\0\0\x04\0\x01\0\0\0".repeat(65), "refusal 13 at 640"),
+        k(0, &list(1, 2).repeat(65), "refusal 13 at 896"),
         k(1, b"\x06\0\0\0\x01\0", "refusal 16 at 0"),
         k(0, b"\x05\0\0\0\x01\0", "refusal 15 at 0"),
         k(1, b"\x07\0\0\0\x03\0x", "refusal 22 at 7"),
-        k(0, b"\x07\0\0\0\x05\0x", "refusal 20 at 0"),
-        k(0, b"\x08\0\0\0\x05\0x", "refusal 15 at 0"),
+        k(0, b"\x07\0\0\0\x06\0x", "refusal 20 at 0"),
+        k(0, b"\x08\0\0\0\x06\0x", "refusal 15 at 0"),
         k(1, b"\x07\0\0\0\x02\0x", "refusal 21 at 0"),
         // at depth 64: 20 and 21 before 13, and 22 where nothing is left
         k(
             0,
-            &[&b"\x07\0\0\0\x03\0n".repeat(64)[..], b"\x0b\0\0\0\x04\0\0\0\0\0\0"].concat(),
+            &[&b"\x07\0\0\0\x03\0n".repeat(64)[..], b"\x0b\0\0\0\x05\0\0\0\0\0\0"].concat(),
             "refusal 21 at 448",
         ),
         k(
             0,
-            &[&b"\x07\0\0\0\x03\0n".repeat(64)[..], b"\x0a\0\0\0\x05\0\0\0\0\0"].concat(),
+            &[&b"\x07\0\0\0\x03\0n".repeat(64)[..], b"\x0a\0\0\0\x04\0\0\0\0\0"].concat(),
             "refusal 20 at 448",
         ),
         k(0, &b"\x07\0\0\0\x03\0n".repeat(64), "refusal 22 at 448"),

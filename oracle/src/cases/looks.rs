@@ -1,21 +1,20 @@
 //! Tables and widths for the fits test's count: lists in lists that do not fit, behind bindings, empty ones at columns around the
-//! width, and every record of a list as the one that settles its test.
+//! width, and lists that just fit or just do not.
 
-use crate::document::looking::shares;
 use crate::rng::Rng;
-use crate::tree::{DEPTH, Tree, table_of};
+use crate::tree::{DEPTH, Tree, cost, table_of};
 
-/// A few trees, at a width that one of their records reaches.
+/// A few trees, at a width that one of their lists begins at or reaches.
 pub fn table(small: bool, rng: &mut Rng) -> (Vec<u8>, usize) {
     let trees: Vec<Tree> = (0..1 + rng.below(3)).map(|_| tree(small, rng)).collect();
     let width = telling(&trees, rng);
     (table_of(&trees), width)
 }
 
-/// Lists in lists around thousands of atoms, which tests walk far into.
+/// Lists in lists around thousands of atoms, whose costs take more than a byte or two.
 pub fn large(rng: &mut Rng) -> (Vec<u8>, usize) {
     let mut atoms = row(2_000 + rng.below(3_000), rng);
-    // where it is long, the last record settles the tests of many lists at one width
+    // where it is long, many lists reach about one width by it
     atoms.push(Tree::Symbol(vec![b'w'; 1 + rng.below(80)]));
     let trees = [around(1 + rng.below(DEPTH - 1), Tree::List(atoms), rng)];
     let width = telling(&trees, rng);
@@ -48,7 +47,7 @@ fn bottom(small: bool, rng: &mut Rng) -> Tree {
     let bound = |name: Vec<u8>, inner: Tree| Tree::Binding(name, Box::new(inner));
     let empty = || Tree::List(Vec::new());
     match rng.below(7) {
-        // now and then so many that a test walks far
+        // now and then so many that the cost takes more than a byte
         0 if !small && rng.one_in(40) => Tree::List(row(300 + rng.below(700), rng)),
         0 => Tree::List(row(rng.below(if small { 6 } else { 30 }), rng)),
         // empty lists at columns one after the other, in the middle of which the width is more often than not
@@ -82,7 +81,7 @@ fn name(rng: &mut Rng) -> Vec<u8> {
     vec![b'n'; 1 + rng.below(most)]
 }
 
-/// A width at which a record settles the test of its list, the last before it, or a little to either side.
+/// A width at which a list begins or which it reaches, or a little to either side.
 fn telling(trees: &[Tree], rng: &mut Rng) -> usize {
     let mut places = Vec::new();
     trees.iter().for_each(|tree| put_reaches(tree, 0, &mut places));
@@ -92,17 +91,13 @@ fn telling(trees: &[Tree], rng: &mut Rng) -> usize {
     (rng.pick(&places) + rng.below(4)).saturating_sub(2)
 }
 
-/// The column of each list, where no list around it fits, and how far each of its records reaches from there.
+/// The column of each list, where no list around it fits, and how far it reaches from there.
 fn put_reaches(tree: &Tree, column: usize, places: &mut Vec<usize>) {
     match tree {
         Tree::Symbol(_) | Tree::Int(_) => {}
         Tree::Binding(name, inner) => put_reaches(inner, column + name.len() + 3, places),
         Tree::List(items) => {
-            places.push(column);
-            places.extend(shares(tree).iter().scan(column, |reach, share| {
-                *reach += share;
-                Some(*reach)
-            }));
+            places.extend([column, column + cost(tree)]);
             let columns = std::iter::once(column + 1).chain(std::iter::repeat(0));
             items.iter().zip(columns).for_each(|(item, column)| put_reaches(item, column, places));
         }

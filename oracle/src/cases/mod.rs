@@ -1,6 +1,7 @@
 //! Cases: which family a case of an op is drawn from, and its cuts, rooms and widths.
 
 mod comments;
+mod costs;
 mod limit;
 mod literals;
 mod looks;
@@ -42,8 +43,9 @@ const SOURCES: &[(&str, usize)] = &[
     ("real", 1),
 ];
 const PRINTED: &[(&str, usize)] = &[("lowest", 2)];
-const TABLES: &[(&str, usize)] = &[("small", 4), ("tables", 3), ("broken", 3), ("lowest", 1)];
-const COUNTED: &[(&str, usize)] = &[("small", 4), ("tables", 3), ("broken", 2), ("looks", 4), ("lowest", 1)];
+const TABLES: &[(&str, usize)] = &[("small", 4), ("tables", 3), ("broken", 3), ("lowest", 1), ("costs", 3)];
+const COUNTED: &[(&str, usize)] =
+    &[("small", 4), ("tables", 3), ("broken", 2), ("looks", 4), ("lowest", 1), ("costs", 2)];
 const SETTINGS: &[(&str, usize)] = &[("orders", 15), ("cuts", 1), ("changed", 2), ("files", 2)];
 
 /// One source at the length limit in so many cases: each is a megabyte.
@@ -198,8 +200,11 @@ impl Cases {
             return self.files.long(op, turn, rng);
         }
         if takes_table(op) {
-            let (table, width) =
+            let (mut table, width) =
                 if op == b'Q' && turn % 2 == 1 { looks::large(rng) } else { tables::large(rng) };
+            if rng.one_in(4) {
+                costs::change(&mut table, rng);
+            }
             return of_table(op, table, width, self.sample, rng);
         }
         let (source, end) = match turn % 32 {
@@ -235,6 +240,7 @@ impl Cases {
             "small" => self.small.nth(turn, rng),
             "lowest" => self.lowest.table(turn, rng),
             "looks" => looks::table(self.sample, rng),
+            "costs" => costs::table(turn, rng),
             "broken" => (tables::broken(rng), width(30, rng)),
             _ => tables::random(self.sample, rng),
         };

@@ -1,7 +1,7 @@
 //! Tables for the printer: every tree of few nodes, random trees, deep ones, and broken tables.
 
 use crate::rng::Rng;
-use crate::tree::{Tree, cost, put_record, table_of};
+use crate::tree::{Tree, cost, put_list, put_record, table_of};
 
 /// All trees up to a number of nodes, over one symbol, one integer and the empty list.
 pub struct SmallTrees(Vec<Tree>);
@@ -113,7 +113,7 @@ fn integer(rng: &mut Rng) -> i128 {
     (bits as i128) >> rng.below(128)
 }
 
-fn tree(depth: usize, rng: &mut Rng) -> Tree {
+pub fn tree(depth: usize, rng: &mut Rng) -> Tree {
     match rng.below(8) {
         0 | 1 => Tree::Symbol(symbol(rng)),
         2 => Tree::Int(integer(rng)),
@@ -175,14 +175,17 @@ pub fn broken(rng: &mut Rng) -> Vec<u8> {
     table
 }
 
+/// What a byte is changed to: kinds, lengths and what is beside them, and bytes that end a symbol.
+const DAMAGE: &[u8] =
+    &[0, 1, 2, 3, 4, 5, 6, 7, 9, 10, 11, 13, 14, 15, 18, 21, 22, 23, 128, 255, b' ', b';', 12];
+
 pub fn damage(table: &mut Vec<u8>, rng: &mut Rng) {
     match rng.below(6) {
         0 => table.truncate(rng.below(table.len() + 1)),
         1 | 2 if !table.is_empty() => {
             for _ in 0..1 + rng.below(2) {
                 let at = rng.below(table.len());
-                table[at] =
-                    rng.pick(&[0, 1, 2, 3, 4, 5, 6, 7, 9, 10, 11, 21, 22, 23, 128, 255, b' ', b';', 12]);
+                table[at] = rng.pick(DAMAGE);
             }
         }
         3 => table.insert(rng.below(table.len() + 1), rng.below(8) as u8),
@@ -197,22 +200,25 @@ pub fn damage(table: &mut Vec<u8>, rng: &mut Rng) {
 }
 
 fn bad_record(table: &mut Vec<u8>, rng: &mut Rng) {
-    match rng.below(7) {
-        0 => put_record(table, rng.below(7) as u16, b"a"),
-        1 => put_record(table, 4, &(rng.below(4) as u32).to_le_bytes()),
-        2 => put_record(table, 4, &u32::MAX.to_le_bytes()),
+    match rng.below(8) {
+        0 => put_record(table, rng.below(8) as u16, b"a"),
+        1 => put_list(table, rng.below(4) as u32, rng.below(8) as u32),
+        2 => put_list(table, u32::MAX, rng.pick(&[0, 1, u32::MAX])),
         3 => put_record(table, 1 + 2 * rng.below(2) as u16, rng.pick(&SYMBOLS[GOOD..]).as_bytes()),
         4 => put_record(table, 2, &vec![0; 15 + rng.below(3)]),
         5 => {
             table.extend((rng.below(8) as u32).to_le_bytes());
-            table.extend([1 + rng.below(4) as u8, 0]);
+            table.extend([1 + rng.below(5) as u8, 0]);
         }
+        // an empty list of kind 4, or of a length that is not a list's
+        6 => put_record(table, rng.pick(&[4, 5, 5]), &vec![0; rng.pick(&[0, 4, 7, 9, 12])]),
         _ => {
             // names enough for 65 bindings, with or without a tree, and at times one that is no symbol
             for _ in 0..63 + rng.below(3) {
                 put_record(table, 3, b"n");
             }
-            put_record(table, 1 + rng.below(4) as u16, rng.pick(&["a", " ", "", "\0\0\0\0"]).as_bytes());
+            let payload = rng.pick(&["a", " ", "", "\0\0\0\0", "\0\0\0\0\x01\0\0\0"]);
+            put_record(table, 1 + rng.below(5) as u16, payload.as_bytes());
         }
     }
 }

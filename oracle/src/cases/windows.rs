@@ -1,6 +1,6 @@
 //! Windows for the printer: runs of lengths, and a second table after calls that moved nothing (V) or in the middle of a print (v).
 
-use super::tables;
+use super::{costs, tables};
 use crate::answer::print;
 use crate::crate_side::CrateSide;
 use crate::frame::{Frame, SOURCE_ROOM};
@@ -40,14 +40,15 @@ fn text_len(table: &[u8], width: usize) -> Option<usize> {
 /// Document 02 decides every answer: one table in all calls, or another one first in calls that move nothing.
 fn decided(table: Vec<u8>, width: usize, most: usize, rng: &mut Rng) -> Calls {
     let lengths = lengths(text_len(&table, width).unwrap_or(40), most, rng);
-    let other = other(rng);
+    let other = if rng.one_in(2) { other_costs(&table, rng) } else { other(rng) };
     let (first, x, y, before) = match rng.below(8) {
         0..4 => (lengths.len() + rng.below(2), table, other, Vec::new()),
         4 => (rng.below(lengths.len() + 1), table.clone(), table, Vec::new()),
         5 => (0, other, table, Vec::new()),
         _ => {
-            let before = unmoving(&other, width, rng);
-            (before.len(), other, table, before)
+            let (x, y) = if rng.one_in(2) { (table, other) } else { (other, table) };
+            let before = unmoving(&x, width, rng);
+            (before.len(), x, y, before)
         }
     };
     Calls { lengths: [before, lengths].concat(), first, x, y }
@@ -87,7 +88,7 @@ fn left_open(table: Vec<u8>, width: usize, most: usize, rng: &mut Rng) -> Calls 
 fn changed(table: &[u8], rng: &mut Rng) -> Vec<u8> {
     let mut changed = table.to_vec();
     let at = rng.below(table.len() + 1);
-    match rng.below(10) {
+    match rng.below(13) {
         0 | 1 => return table.to_vec(),
         2 => return other(rng),
         3 => changed.truncate(at),
@@ -97,10 +98,18 @@ fn changed(table: &[u8], rng: &mut Rng) -> Vec<u8> {
         7 => changed
             .iter_mut()
             .skip(at)
-            .for_each(|byte| *byte = rng.pick(&[0, 1, 2, 3, 4, 7, 10, 22, 97, 255])),
+            .for_each(|byte| *byte = rng.pick(&[0, 1, 2, 3, 4, 5, 7, 10, 14, 22, 97, 255])),
+        8..11 => return other_costs(table, rng),
         _ if table.is_empty() => return vec![rng.below(256) as u8; rng.below(30)],
         _ => (0..1 + rng.below(4)).for_each(|_| tables::damage(&mut changed, rng)),
     }
+    changed
+}
+
+/// The same table, but for the costs that some of its lists store.
+fn other_costs(table: &[u8], rng: &mut Rng) -> Vec<u8> {
+    let mut changed = table.to_vec();
+    costs::change(&mut changed, rng);
     changed
 }
 
@@ -153,9 +162,10 @@ fn lengths(text: usize, most: usize, rng: &mut Rng) -> Vec<u32> {
 
 #[cfg(test)]
 mod tests {
-    use crate::answer::answer;
+    use crate::answer::{Side, answer};
     use crate::cases::Cases;
     use crate::crate_side::CrateSide;
+    use crate::windows::Calls;
 
     /// That no case is open and each fits its frame is asserted on the way.
     #[test]
@@ -169,6 +179,21 @@ mod tests {
                 ends += String::from_utf8(lines).unwrap().contains("\nend\n") as usize;
             }
             assert!(ends > 1000, "{ends}");
+        }
+    }
+
+    /// A good table from which on the stored costs are others, and nothing else is.
+    #[test]
+    fn cases_of_v_change_costs() {
+        for (sample, each, least) in [(false, 3000, 200), (true, 400, 20)] {
+            let cases = Cases::new(1, &[], sample).unwrap();
+            let changes = (0..each).filter(|number| {
+                let Calls { x, y, .. } = Calls::of(&cases.frame(b'v', *number).bytes);
+                let wrong = CrateSide.check(&y).is_err_and(|refusal| refusal.number == 25);
+                wrong && x.len() == y.len() && CrateSide.check(&x).is_ok()
+            });
+            let count = changes.count();
+            assert!(count >= least, "{count} of {each}");
         }
     }
 }

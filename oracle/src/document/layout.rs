@@ -7,7 +7,7 @@ pub struct Page {
     pub out: Vec<u8>,
     /// An empty list that doesn't fit was printed: here the crate has no answer.
     pub unfitting_empty_list: bool,
-    /// The records that the fits test looked at.
+    /// How many costs the fits test looked at.
     pub looked: usize,
     column: usize,
     indent: usize,
@@ -43,7 +43,7 @@ impl Page {
     }
 
     fn fits(&mut self, list: &Tree) -> bool {
-        self.looked += looks(list, self.width, self.column);
+        self.looked += looks(self.width, self.column);
         self.column <= self.width && cost(list) <= self.width - self.column
     }
 

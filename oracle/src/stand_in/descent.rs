@@ -2,7 +2,7 @@
 
 use crate::document::lex;
 use crate::token::{Kind, Lexed, Refusal, Token, refusal};
-use crate::tree::{DEPTH, TABLE_LIMIT, Tree};
+use crate::tree::{DEPTH, TABLE_LIMIT, Tree, int_text};
 
 struct Source<'a> {
     bytes: &'a [u8],
@@ -73,47 +73,77 @@ impl Source<'_> {
     }
 }
 
-/// The trees of a table, or the first of 15, 20, 21, 13 and 16; or 22 where a tree is due at the end.
+/// The trees of a table, or the first of 15, 20, 21, 13 and 16; or 22 where a tree is due at the end; or 25.
 pub fn table_trees(table: &[u8]) -> Result<Vec<Tree>, Refusal> {
     if table.len() > TABLE_LIMIT {
         return Err(refusal(1, TABLE_LIMIT));
     }
-    let (mut trees, mut at) = (Vec::new(), 0);
-    while at < table.len() {
-        trees.push(table_tree(table, &mut at, 0)?);
+    let mut walk = Walk { table, at: 0, wrong: Vec::new() };
+    let mut trees = Vec::new();
+    while walk.at < table.len() {
+        trees.push(walk.tree(0)?.0);
     }
-    Ok(trees)
+    // they were met from the inside out
+    walk.wrong.into_iter().min().map_or(Ok(trees), |first| Err(refusal(25, first)))
 }
 
-fn table_tree(table: &[u8], at: &mut usize, depth: usize) -> Result<Tree, Refusal> {
-    let start = *at;
-    let rest = &table[start..];
-    if rest.len() < 6 {
-        return Err(refusal(if rest.is_empty() { 22 } else { 15 }, start));
-    }
-    let word = |from: usize| (0..4).map(|i| (rest[from + i] as usize) << (8 * i)).sum::<usize>();
-    let (len, kind) = (word(0), rest[4] as usize + 256 * rest[5] as usize);
-    if len < 6 || len > rest.len() {
-        return Err(refusal(15, start));
-    }
-    if kind == 0 || kind > 4 {
-        return Err(refusal(20, start));
-    }
-    if kind == 2 && len != 22 || kind == 4 && len != 10 {
-        return Err(refusal(21, start));
-    }
-    if (kind == 3 || kind == 4) && depth == DEPTH {
-        return Err(refusal(13, start));
-    }
-    let payload = &rest[6..len];
-    if (kind == 1 || kind == 3) && !lex::is_symbol(payload) {
-        return Err(refusal(16, start));
-    }
-    *at += len;
-    match kind {
-        1 => Ok(Tree::Symbol(payload.to_vec())),
-        2 => Ok(Tree::Int(i128::from_le_bytes(payload.try_into().expect("22 bytes less 6")))),
-        3 => Ok(Tree::Binding(payload.to_vec(), Box::new(table_tree(table, at, depth + 1)?))),
-        _ => (0..word(6)).map(|_| table_tree(table, at, depth + 1)).collect::<Result<_, _>>().map(Tree::List),
+/// The table, the place that it has come to, and the lists so far whose stored cost is another than what was met in them.
+struct Walk<'a> {
+    table: &'a [u8],
+    at: usize,
+    wrong: Vec<usize>,
+}
+
+impl Walk<'_> {
+    /// The tree that is due here with `depth` lists and bindings open, and its cost.
+    fn tree(&mut self, depth: usize) -> Result<(Tree, usize), Refusal> {
+        let start = self.at;
+        let rest = &self.table[start..];
+        if rest.len() < 6 {
+            return Err(refusal(if rest.is_empty() { 22 } else { 15 }, start));
+        }
+        let word = |from: usize| (0..4).map(|i| (rest[from + i] as usize) << (8 * i)).sum::<usize>();
+        let (len, kind) = (word(0), rest[4] as usize + 256 * rest[5] as usize);
+        if len < 6 || len > rest.len() {
+            return Err(refusal(15, start));
+        }
+        if kind == 0 || kind == 4 || kind > 5 {
+            return Err(refusal(20, start));
+        }
+        if kind == 2 && len != 6 + 16 || kind == 5 && len != 6 + 4 + 4 {
+            return Err(refusal(21, start));
+        }
+        if (kind == 3 || kind == 5) && depth == DEPTH {
+            return Err(refusal(13, start));
+        }
+        let payload = &rest[6..len];
+        if (kind == 1 || kind == 3) && !lex::is_symbol(payload) {
+            return Err(refusal(16, start));
+        }
+        self.at += len;
+        match kind {
+            1 => Ok((Tree::Symbol(payload.to_vec()), len - 6)),
+            2 => {
+                let value = i128::from_le_bytes(payload.try_into().expect("22 bytes less 6"));
+                Ok((Tree::Int(value), int_text(value).len()))
+            }
+            3 => {
+                let (inner, cost) = self.tree(depth + 1)?;
+                Ok((Tree::Binding(payload.to_vec(), Box::new(inner)), len - 6 + 3 + cost))
+            }
+            _ => {
+                // each item with the one that its list adds for it, and the list's own
+                let (mut items, mut cost) = (Vec::new(), 1);
+                for _ in 0..word(6) {
+                    let (item, of_item) = self.tree(depth + 1)?;
+                    items.push(item);
+                    cost += of_item + 1;
+                }
+                if word(10) != cost {
+                    self.wrong.push(start);
+                }
+                Ok((Tree::List(items), cost))
+            }
+        }
     }
 }

@@ -1,17 +1,12 @@
-//! Prints with their count of records that the fits test looks at, worked by hand from document 02.
+//! Prints with their count of what the fits test looks at, worked by hand from document 02: one for each list tested with the column not past the width.
 
-use super::{Case, case};
+use super::{Case, case, list};
 
 const A: &[u8] = b"\x07\0\0\0\x01\0a";
 const B: &[u8] = b"\x07\0\0\0\x01\0b";
 const C: &[u8] = b"\x07\0\0\0\x01\0c";
 const RULE: &[u8] = b"\x0a\0\0\0\x01\0rule";
 const X_AT: &[u8] = b"\x07\0\0\0\x03\0x";
-
-/// The record of a list of so many items.
-fn list(items: u8) -> Vec<u8> {
-    vec![10, 0, 0, 0, 4, 0, items, 0, 0, 0]
-}
 
 /// A table behind the byte for the layout, with room for any text.
 fn q(width: u32, records: &[&[u8]], text: &str, looked: usize) -> Case {
@@ -25,50 +20,55 @@ pub fn cases() -> Vec<Case> {
 }
 
 fn counted() -> Vec<Case> {
-    let (one, two, three) = (&list(1)[..], &list(2)[..], &list(3)[..]);
-    let rule = [three, RULE, two, A, B, C];
+    let (one, pair) = (&list(1, 3)[..], &list(2, 5)[..]);
+    let rule = [&list(3, 14)[..], RULE, pair, A, B, C];
     let bound = [X_AT, one, A];
-    let inside = [two, A, two, B, one, C];
-    let settles = [two, A, X_AT, one, B];
+    let inside = [&list(2, 11)[..], A, &list(2, 7), B, one, C];
+    let behind = [&list(2, 11)[..], A, X_AT, one, B];
     vec![
-        // sums 4, 8, 11, 12, 13, 14, and where that does not fit of `(a b)` 3, 4, 5
-        q(14, &rule, "(rule (a b) c)\n", 6),
-        q(13, &rule, "(rule\n    (a b)\n    c\n)\n", 6 + 3),
-        q(12, &rule, "(rule\n    (a b)\n    c\n)\n", 5 + 3),
-        q(8, &rule, "(rule\n    (a b)\n    c\n)\n", 3 + 3),
-        q(4, &rule, "(rule\n    (a\n        b\n    )\n    c\n)\n", 2 + 3),
-        q(3, &rule, "(rule\n    (a\n        b\n    )\n    c\n)\n", 1 + 2),
-        q(u32::MAX, &rule, "(rule (a b) c)\n", 6),
-        // from column 4 on 2, 3
-        q(7, &bound, "x @ (a)\n", 2),
-        q(6, &bound, "x @ (a\n)\n", 2),
+        // where the whole does not fit, `(a b)` is tested on its line
+        q(14, &rule, "(rule (a b) c)\n", 1),
+        q(13, &rule, "(rule\n    (a b)\n    c\n)\n", 1 + 1),
+        q(12, &rule, "(rule\n    (a b)\n    c\n)\n", 1 + 1),
+        q(8, &rule, "(rule\n    (a b)\n    c\n)\n", 1 + 1),
+        q(4, &rule, "(rule\n    (a\n        b\n    )\n    c\n)\n", 1 + 1),
+        q(3, &rule, "(rule\n    (a\n        b\n    )\n    c\n)\n", 1 + 1),
+        q(u32::MAX, &rule, "(rule (a b) c)\n", 1),
+        // from column 4 on, which is past width 3
+        q(7, &bound, "x @ (a)\n", 1),
+        q(6, &bound, "x @ (a\n)\n", 1),
         q(5, &bound, "x @ (a\n)\n", 1),
         q(4, &bound, "x @ (a\n)\n", 1),
         q(3, &bound, "x @ (a\n)\n", 0),
-        // 3, 4, 7, 8, 10, 11; then 3, 4, 6, 7, and no test of `(c)`
-        q(11, &inside, "(a (b (c)))\n", 6),
-        q(10, &inside, "(a\n    (b (c))\n)\n", 6 + 4),
-        q(6, &inside, "(a\n    (b\n        (c)\n    )\n)\n", 3 + 4 + 2),
-        // 3, 4, 8: the binding settles; the list behind it from column 4 on 2, 3
-        q(7, &settles, "(a\n    x @ (b)\n)\n", 3 + 2),
+        // no test of a list inside one that fits
+        q(11, &inside, "(a (b (c)))\n", 1),
+        q(10, &inside, "(a\n    (b (c))\n)\n", 1 + 1),
+        q(7, &inside, "(a\n    (b (c))\n)\n", 1 + 1),
+        q(6, &inside, "(a\n    (b\n        (c)\n    )\n)\n", 1 + 1 + 1),
+        // the list behind the binding from column 4 on
+        q(7, &behind, "(a\n    x @ (b)\n)\n", 1 + 1),
+        q(4, &behind, "(a\n    x @ (b\n    )\n)\n", 1 + 1),
+        q(3, &behind, "(a\n    x @ (b\n    )\n)\n", 1),
         // each tree from column 0 on
-        q(3, &[one, A, one, A], "(a)\n\n(a)\n", 2 + 2),
-        q(2, &[one, A, B, one, A], "(a\n)\n\nb\n\n(a\n)\n", 2 + 2),
+        q(3, &[one, A, one, A], "(a)\n\n(a)\n", 1 + 1),
+        q(2, &[one, A, B, one, A], "(a\n)\n\nb\n\n(a\n)\n", 1 + 1),
     ]
 }
 
-/// The one record of an empty list: past the width, where nothing is left, and where it fits.
+/// An empty list is tested too: past the width, where nothing is left, and where it fits.
 fn empty() -> Vec<Case> {
-    let (none, two) = (&list(0)[..], &list(2)[..]);
+    let (none, two) = (&list(0, 1)[..], &list(2, 5)[..]);
     vec![
         q(0, &[none], "()\n", 1),
         q(1, &[none], "()\n", 1),
         q(3, &[X_AT, none], "x @ ()\n", 0),
         q(4, &[X_AT, none], "x @ ()\n", 1),
         q(5, &[X_AT, none], "x @ ()\n", 1),
+        // the first of the two stands at column 1
         q(0, &[two, none, none], "(()\n    ()\n)\n", 1 + 1),
         q(1, &[two, none, none], "(()\n    ()\n)\n", 1 + 1 + 1),
-        q(5, &[two, none, none], "(() ())\n", 3),
+        q(4, &[two, none, none], "(()\n    ()\n)\n", 1 + 1 + 1),
+        q(5, &[two, none, none], "(() ())\n", 1),
     ]
 }
 
@@ -81,8 +81,8 @@ fn not_counted() -> Vec<Case> {
         q(0, &[A, X_AT, B], "a\n\nx @ b\n", 0),
         q(9, &[], "", 0),
         case('Q', 9, 9, "", "print 0\n\nlooked 0\nkept"),
-        refused(3, &[&list(1), A].concat(), "refusal 18 at 4"),
-        refused(9, &list(1), "refusal 22 at 10"),
+        refused(3, &[&list(1, 3), A].concat(), "refusal 18 at 4"),
+        refused(9, &list(1, 3), "refusal 22 at 14"),
         refused(9, b"\x05\0\0\0\x01\0", "refusal 15 at 0"),
     ]
 }

@@ -1,6 +1,6 @@
 //! -2^127, printed as `0x8` and 31 zeros at a cost of 34, worked by hand from document 02.
 
-use super::{Case, case};
+use super::{Case, case, list};
 use crate::windows::Calls;
 
 const TEXT: &str = "0x80000000000000000000000000000000";
@@ -9,9 +9,15 @@ const LOWEST: &[u8] = b"\x16\0\0\0\x02\0\0\0\0\0\0\0\0\0\0\0\0\0\0\0\0\x80";
 const ABOVE: &[u8] = b"\x16\0\0\0\x02\0\x01\0\0\0\0\0\0\0\0\0\0\0\0\0\0\x80";
 const A: &[u8] = b"\x07\0\0\0\x01\0a";
 const X_AT: &[u8] = b"\x07\0\0\0\x03\0x";
-const ONE: &[u8] = b"\x0a\0\0\0\x04\0\x01\0\0\0";
-const TWO: &[u8] = b"\x0a\0\0\0\x04\0\x02\0\0\0";
-const THREE: &[u8] = b"\x0a\0\0\0\x04\0\x03\0\0\0";
+/// The records of `(L)`, of `(a L)` and `(L a)`, and of `(a L a)`, where L is the integer.
+const ONE: &[u8] = &list(1, 2 + 34);
+const TWO: &[u8] = &list(2, 3 + 1 + 34);
+const THREE: &[u8] = &list(3, 4 + 1 + 34 + 1);
+/// Of `(x @ L)`, `(L L)`, `((a L) a)` and `(a H)`, where H is the integer above.
+const BOUND: &[u8] = &list(1, 2 + 4 + 34);
+const BOTH: &[u8] = &list(2, 3 + 34 + 34);
+const AROUND: &[u8] = &list(2, 3 + 38 + 1);
+const OTHER: &[u8] = &list(2, 3 + 1 + 40);
 
 pub fn cases() -> Vec<Case> {
     [read(), alone(), laid_out(), decided_by_34(), in_windows(), checked()].concat()
@@ -26,7 +32,7 @@ fn hex(bytes: &[u8]) -> String {
     bytes.iter().map(|byte| format!("{byte:02x}")).collect()
 }
 
-/// By ops P and Q: the text, and the records that the fits test looks at.
+/// By ops P and Q: the text, and how many costs the fits test looks at.
 fn printed(width: u32, records: &[&[u8]], text: &str, looked: usize) -> Vec<Case> {
     let (table, text) = (records.concat(), full(text));
     let lines = format!("print {}\n{}\n", text.len(), hex(text.as_bytes()));
@@ -66,48 +72,48 @@ fn alone() -> Vec<Case> {
 /// First, in the middle and last in lists, behind a binding, and beside other trees.
 fn laid_out() -> Vec<Case> {
     vec![
-        // sums 2, 36
-        printed(36, &[ONE, LOWEST], "(L)\n", 2),
-        printed(35, &[ONE, LOWEST], "(L\n)\n", 2),
+        printed(36, &[ONE, LOWEST], "(L)\n", 1),
+        printed(35, &[ONE, LOWEST], "(L\n)\n", 1),
         printed(1, &[ONE, LOWEST], "(L\n)\n", 1),
-        // 3, 4, 38
-        printed(38, &[TWO, A, LOWEST], "(a L)\n", 3),
-        printed(37, &[TWO, A, LOWEST], "(a\n    L\n)\n", 3),
-        printed(3, &[TWO, A, LOWEST], "(a\n    L\n)\n", 2),
-        // 3, 37, 38
-        printed(38, &[TWO, LOWEST, A], "(L a)\n", 3),
-        printed(37, &[TWO, LOWEST, A], "(L\n    a\n)\n", 3),
-        printed(36, &[TWO, LOWEST, A], "(L\n    a\n)\n", 2),
-        // 4, 5, 39, 40
-        printed(40, &[THREE, A, LOWEST, A], "(a L a)\n", 4),
-        printed(39, &[THREE, A, LOWEST, A], "(a\n    L\n    a\n)\n", 4),
-        // 2, 6, 40
-        printed(40, &[ONE, X_AT, LOWEST], "(x @ L)\n", 3),
-        printed(39, &[ONE, X_AT, LOWEST], "(x @ L\n)\n", 3),
-        // from column 4 on 2, 36
-        printed(40, &[X_AT, ONE, LOWEST], "x @ (L)\n", 2),
-        printed(39, &[X_AT, ONE, LOWEST], "x @ (L\n)\n", 2),
-        // 3, 37, 71
-        printed(71, &[TWO, LOWEST, LOWEST], "(L L)\n", 3),
-        printed(70, &[TWO, LOWEST, LOWEST], "(L\n    L\n)\n", 3),
+        printed(38, &[TWO, A, LOWEST], "(a L)\n", 1),
+        printed(37, &[TWO, A, LOWEST], "(a\n    L\n)\n", 1),
+        printed(3, &[TWO, A, LOWEST], "(a\n    L\n)\n", 1),
+        printed(38, &[TWO, LOWEST, A], "(L a)\n", 1),
+        printed(37, &[TWO, LOWEST, A], "(L\n    a\n)\n", 1),
+        printed(36, &[TWO, LOWEST, A], "(L\n    a\n)\n", 1),
+        printed(40, &[THREE, A, LOWEST, A], "(a L a)\n", 1),
+        printed(39, &[THREE, A, LOWEST, A], "(a\n    L\n    a\n)\n", 1),
+        printed(40, &[BOUND, X_AT, LOWEST], "(x @ L)\n", 1),
+        printed(39, &[BOUND, X_AT, LOWEST], "(x @ L\n)\n", 1),
+        // from column 4 on
+        printed(40, &[X_AT, ONE, LOWEST], "x @ (L)\n", 1),
+        printed(39, &[X_AT, ONE, LOWEST], "x @ (L\n)\n", 1),
+        printed(3, &[X_AT, ONE, LOWEST], "x @ (L\n)\n", 0),
+        printed(71, &[BOTH, LOWEST, LOWEST], "(L L)\n", 1),
+        printed(70, &[BOTH, LOWEST, LOWEST], "(L\n    L\n)\n", 1),
         printed(9, &[A, LOWEST, A], "a\n\nL\n\na\n", 0),
     ]
     .concat()
 }
 
-/// Where a cost of 40, that of the decimal, would break a list or stop a test earlier; and the integer above, which has it.
+/// Where a cost of 40, that of the decimal, would break a list or not be the one to store; and the integer above, which has it.
 fn decided_by_34() -> Vec<Case> {
     let above = format!("(a {})\n", -i128::MAX);
     let broken = format!("(a\n    {}\n)\n", -i128::MAX);
-    vec![
-        printed(43, &[TWO, A, LOWEST], "(a L)\n", 3),
-        printed(43, &[TWO, A, ABOVE], &broken, 3),
-        printed(44, &[TWO, A, ABOVE], &above, 3),
-        // the outer 3, 6, 7, 41, 42; the inner from column 1 on 3, 4, 38
-        printed(42, &[TWO, TWO, A, LOWEST, A], "((a L) a)\n", 5),
-        printed(41, &[TWO, TWO, A, LOWEST, A], "((a L)\n    a\n)\n", 5 + 3),
-        printed(39, &[TWO, TWO, A, LOWEST, A], "((a L)\n    a\n)\n", 4 + 3),
-        printed(38, &[TWO, TWO, A, LOWEST, A], "((a\n    L\n)\n    a\n)\n", 4 + 3),
+    let nested = &[AROUND, TWO, A, LOWEST, A][..];
+    let wrong =
+        |list: &[u8], integer: &[u8]| vec![case('K', 0, 0, [list, A, integer].concat(), "refusal 25 at 0")];
+    [
+        printed(43, &[TWO, A, LOWEST], "(a L)\n", 1),
+        printed(43, &[OTHER, A, ABOVE], &broken, 1),
+        printed(44, &[OTHER, A, ABOVE], &above, 1),
+        wrong(OTHER, LOWEST),
+        wrong(TWO, ABOVE),
+        // the inner from column 1 on
+        printed(42, nested, "((a L) a)\n", 1),
+        printed(41, nested, "((a L)\n    a\n)\n", 1 + 1),
+        printed(39, nested, "((a L)\n    a\n)\n", 1 + 1),
+        printed(38, nested, "((a\n    L\n)\n    a\n)\n", 1 + 1),
     ]
     .concat()
 }
@@ -136,12 +142,12 @@ fn in_windows() -> Vec<Case> {
         fill(34, &[1, 1, 1, 31, 1, 1], &[LOWEST], "L\n", 0),
         fill(35, &[0, 2, 16, 17, 1], &[LOWEST], "L\n", 0),
         fill(100, &[3, 2, 34, 1], &[X_AT, LOWEST], "x @ L\n", 0),
-        fill(38, &[3, 34, 2, 1], two, "(a L)\n", 3),
-        fill(43, &[512, 512], two, "(a L)\n", 3),
-        fill(37, &[10, 30, 10, 1], two, "(a\n    L\n)\n", 3),
-        fill(41, &[4, 33, 40, 1], &[TWO, TWO, A, LOWEST, A], "((a L)\n    a\n)\n", 5 + 3),
+        fill(38, &[3, 34, 2, 1], two, "(a L)\n", 1),
+        fill(43, &[512, 512], two, "(a L)\n", 1),
+        fill(37, &[10, 30, 10, 1], two, "(a\n    L\n)\n", 1),
+        fill(41, &[4, 33, 40, 1], &[AROUND, TWO, A, LOWEST, A], "((a L)\n    a\n)\n", 1 + 1),
         // the first call checks the whole table, and finds nothing to refuse
-        fill(9, &[0, 1, 512, 9], &[A, TWO, A, A, LOWEST], "a\n\n(a a)\n\nL\n", 3),
+        fill(9, &[0, 1, 512, 9], &[A, &list(2, 5), A, A, LOWEST], "a\n\n(a a)\n\nL\n", 1),
     ]
 }
 
@@ -152,8 +158,8 @@ fn checked() -> Vec<Case> {
     vec![
         k(0, LOWEST, "good"),
         k(1, LOWEST, "good"),
-        k(1, &[TWO, A, X_AT, LOWEST].concat(), "good"),
-        k(1, &[TWO, A, X_AT, cut].concat(), "refusal 15 at 24"),
-        k(0, &[LOWEST, ONE].concat(), "refusal 22 at 32"),
+        k(1, &[&list(2, 3 + 1 + 4 + 34), A, X_AT, LOWEST].concat(), "good"),
+        k(1, &[TWO, A, X_AT, cut].concat(), "refusal 15 at 28"),
+        k(0, &[LOWEST, ONE].concat(), "refusal 22 at 36"),
     ]
 }

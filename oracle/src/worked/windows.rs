@@ -5,15 +5,14 @@ use crate::windows::Calls;
 
 const ATOM: &[u8] = b"\x07\0\0\0\x01\0a";
 /// `(a b)`, of cost 5.
-const PAIR: &[u8] = b"\x0a\0\0\0\x04\0\x02\0\0\0\x07\0\0\0\x01\0a\x07\0\0\0\x01\0b";
-/// `x @ (a)`.
-const BOUND: &[u8] = b"\x07\0\0\0\x03\0x\x0a\0\0\0\x04\0\x01\0\0\0\x07\0\0\0\x01\0a";
+const PAIR: &[u8] = b"\x0e\0\0\0\x05\0\x02\0\0\0\x05\0\0\0\x07\0\0\0\x01\0a\x07\0\0\0\x01\0b";
+/// `x @ (a)`, whose list has cost 3.
+const BOUND: &[u8] = b"\x07\0\0\0\x03\0x\x0e\0\0\0\x05\0\x01\0\0\0\x03\0\0\0\x07\0\0\0\x01\0a";
 const NO_SYMBOL: &[u8] = b"\x06\0\0\0\x01\0";
 
-/// The end, with the records that the fits test looked at: none of atoms, two of `x @ (a)`, three of `(a b)`.
+/// The end, with what the fits test looked at: nothing of atoms, one cost of `x @ (a)` and of `(a b)`.
 const NONE: &str = "end\nlooked 0";
-const TWO: &str = "end\nlooked 2";
-const THREE: &str = "end\nlooked 3";
+const ONE: &str = "end\nlooked 1";
 
 fn calls(lengths: &[u32], first: usize, x: &[u8], y: &[u8]) -> Vec<u8> {
     Calls { lengths: lengths.to_vec(), first, x: x.to_vec(), y: y.to_vec() }.bytes()
@@ -45,17 +44,17 @@ fn whole() -> Vec<Case> {
             5,
             &[2, 3, 0, 2, 5, 0],
             PAIR,
-            &["window 2\n2861", "window 3\n206229", "window 0\n", "window 1\n0a", THREE, THREE],
+            &["window 2\n2861", "window 3\n206229", "window 0\n", "window 1\n0a", ONE, ONE],
         ),
-        one(5, &[6, 1], PAIR, &["window 6\n28612062290a", THREE]),
-        one(5, &[5, 0, 1, 0], PAIR, &["window 5\n2861206229", "window 0\n", "window 1\n0a", THREE]),
-        one(5, &[u32::MAX, 2_097_152], PAIR, &["window 6\n28612062290a", THREE]),
-        one(4, &[4, 4, 4, 4], PAIR, &["window 4\n28610a20", "window 4\n20202062", "window 3\n0a290a", THREE]),
+        one(5, &[6, 1], PAIR, &["window 6\n28612062290a", ONE]),
+        one(5, &[5, 0, 1, 0], PAIR, &["window 5\n2861206229", "window 0\n", "window 1\n0a", ONE]),
+        one(5, &[u32::MAX, 2_097_152], PAIR, &["window 6\n28612062290a", ONE]),
+        one(4, &[4, 4, 4, 4], PAIR, &["window 4\n28610a20", "window 4\n20202062", "window 3\n0a290a", ONE]),
         one(
             9,
             &[2, 2, 2, 2, 2],
             BOUND,
-            &["window 2\n7820", "window 2\n4020", "window 2\n2861", "window 2\n290a", TWO],
+            &["window 2\n7820", "window 2\n4020", "window 2\n2861", "window 2\n290a", ONE],
         ),
         one(
             9,
@@ -71,7 +70,7 @@ fn whole() -> Vec<Case> {
         ),
         one(9, &[0, 5], b"", &[NONE, NONE]),
         // the same bytes are the same table
-        two(5, &[3, 3, 3], 1, PAIR, PAIR, &["window 3\n286120", "window 3\n62290a", THREE]),
+        two(5, &[3, 3, 3], 1, PAIR, PAIR, &["window 3\n286120", "window 3\n62290a", ONE]),
         // four numbers of which the calls say nine, and no table
         case('V', 9, 0, [9, 0, 0, 0].repeat(4), lines(&[NONE])),
     ]
@@ -83,7 +82,7 @@ fn refused() -> Vec<Case> {
         (&b"\x07\0\0\0\x03\0n".repeat(65), "refusal 13 at 448"),
         (b"\x07\0\0\0\x01\0", "refusal 15 at 0"),
         (&[ATOM, NO_SYMBOL].concat(), "refusal 16 at 7"),
-        (b"\x07\0\0\0\x05\0x", "refusal 20 at 0"),
+        (b"\x07\0\0\0\x04\0x", "refusal 20 at 0"),
         (b"\x07\0\0\0\x02\0x", "refusal 21 at 0"),
         (b"\x07\0\0\0\x03\0x", "refusal 22 at 7"),
     ];
@@ -99,9 +98,9 @@ fn fresh_again() -> Vec<Case> {
             2,
             NO_SYMBOL,
             PAIR,
-            &["refusal 16 at 0", "refusal 16 at 0", "window 6\n28612062290a", THREE],
+            &["refusal 16 at 0", "refusal 16 at 0", "window 6\n28612062290a", ONE],
         ),
-        two(5, &[0, 9, 9], 1, ATOM, PAIR, &["window 0\n", "window 6\n28612062290a", THREE]),
+        two(5, &[0, 9, 9], 1, ATOM, PAIR, &["window 0\n", "window 6\n28612062290a", ONE]),
         two(5, &[0, 9, 9], 1, ATOM, NO_SYMBOL, &["window 0\n", "refusal 16 at 0", "refusal 16 at 0"]),
         two(5, &[9, 9], 1, NO_SYMBOL, b"", &["refusal 16 at 0", NONE]),
     ]
@@ -116,7 +115,7 @@ fn left_open() -> Vec<Case> {
         v(&[2, 9, 9], 1, PAIR, ATOM),
         v(&[2, 9, 0, 9], 1, PAIR, PAIR),
         v(&[2, 9, 9], 1, PAIR, b""),
-        v(&[2, 9, 9], 1, PAIR, b"\xff\xff\xff\xff\x04\0\xff\xff\xff\xff"),
+        v(&[2, 9, 9], 1, PAIR, b"\xff\xff\xff\xff\x05\0\xff\xff\xff\xff"),
         v(&[9, 9, 9], 1, b"", PAIR),
         v(&[9, 9, 9], 2, PAIR, BOUND),
         v(&[0, u32::MAX], 1, NO_SYMBOL, PAIR),

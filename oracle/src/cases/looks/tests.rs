@@ -1,11 +1,10 @@
 //! That the cases of Q tell the count from counts that are wrong.
 
-use super::shares;
 use crate::answer::Side;
 use crate::cases::Cases;
 use crate::crate_side::CrateSide;
 use crate::frame::after_layout;
-use crate::tree::{DEPTH, Tree, cost};
+use crate::tree::{Tree, cost};
 
 /// A list as a print comes upon it.
 struct Met<'t> {
@@ -20,40 +19,37 @@ struct Met<'t> {
 }
 
 impl Met<'_> {
-    fn own(&self) -> usize {
-        shares(self.list).len()
+    fn is_empty(&self) -> bool {
+        shares(self.list).len() == 1
     }
 
     fn fits(&self) -> bool {
         self.left.is_some_and(|left| cost(self.list) <= left)
     }
 
-    fn looked_by(&self, shares: Vec<usize>, less: usize) -> usize {
-        let Some(left) = self.left.filter(|_| !self.inside) else { return 0 };
-        let (mut sum, left) = (0, left.saturating_sub(less));
-        let settled = shares.iter().position(|share| {
-            sum += share;
-            sum > left
-        });
-        settled.map_or(shares.len(), |at| at + 1)
+    fn looked(&self) -> usize {
+        usize::from(!self.inside && self.left.is_some())
     }
 
-    fn looked(&self) -> usize {
-        self.looked_by(shares(self.list), 0)
+    /// The count before costs were stored: the list's records up to the one that settled "no", or all of its own.
+    fn walked(&self) -> usize {
+        let (mut sum, shares) = (0, shares(self.list));
+        let settled = shares.iter().position(|share| {
+            sum += share;
+            Some(sum) > self.left
+        });
+        self.looked() * settled.map_or(shares.len(), |at| at + 1)
     }
 }
 
-/// The shares if a list's own record had 1, and each of its items 1 more.
-fn with_items(tree: &Tree, more: usize, shares: &mut Vec<usize>) {
+/// Each record's own share of the cost, in preorder.
+fn shares(tree: &Tree) -> Vec<usize> {
     match tree {
-        Tree::Symbol(_) | Tree::Int(_) => shares.push(cost(tree) + more),
-        Tree::Binding(name, inner) => {
-            shares.push(name.len() + 3 + more);
-            with_items(inner, 0, shares);
-        }
+        Tree::Symbol(_) | Tree::Int(_) => vec![cost(tree)],
+        Tree::Binding(name, inner) => [vec![name.len() + 3], shares(inner)].concat(),
         Tree::List(items) => {
-            shares.push(1 + more);
-            items.iter().for_each(|item| with_items(item, 1, shares));
+            let inside = items.iter().flat_map(shares);
+            std::iter::once(items.len() + 1).chain(inside).collect()
         }
     }
 }
@@ -61,20 +57,17 @@ fn with_items(tree: &Tree, more: usize, shares: &mut Vec<usize>) {
 /// What a list adds to a count that is wrong.
 type Wrong = fn(&Met) -> usize;
 const WRONG: &[(&str, Wrong)] = &[
-    ("the record that settles left out", |met| met.looked() - usize::from(met.looked() > 0 && !met.fits())),
-    ("inside a list that fits", |met| if met.inside { met.own() } else { met.looked() }),
-    ("past the width", |met| met.looked().max(usize::from(!met.inside))),
+    ("the records walked", |met| met.walked()),
+    ("all of a list's own", |met| met.looked() * shares(met.list).len()),
+    ("inside a list that fits", |met| usize::from(met.left.is_some())),
+    ("past the width", |met| usize::from(!met.inside)),
+    ("none at the width", |met| if met.left == Some(0) { 0 } else { met.looked() }),
+    ("those that fit", |met| if met.fits() { met.looked() } else { 0 }),
+    ("those that do not fit", |met| if met.fits() { 0 } else { met.looked() }),
     ("the last tree alone", |met| if met.last { met.looked() } else { 0 }),
     ("top lists alone", |met| if met.top { met.looked() } else { 0 }),
-    ("no empty lists", |met| if met.own() > 1 { met.looked() } else { 0 }),
+    ("no empty lists", |met| if met.is_empty() { 0 } else { met.looked() }),
     ("none behind a binding", |met| if met.bound { 0 } else { met.looked() }),
-    ("all of a list's own", |met| if met.looked() > 0 { met.own() } else { 0 }),
-    ("settled at the width", |met| met.looked_by(shares(met.list), 1)),
-    ("a list's share with its items", |met| {
-        let mut shares = Vec::new();
-        with_items(met.list, 0, &mut shares);
-        met.looked_by(shares, 0)
-    }),
 ];
 
 fn meet<'t>(tree: &'t Tree, width: usize, column: usize, from: Met<'t>, met: &mut Vec<Met<'t>>) {
@@ -98,34 +91,17 @@ fn meet<'t>(tree: &'t Tree, width: usize, column: usize, from: Met<'t>, met: &mu
     }
 }
 
-/// The record that settles the list's test.
-fn settling<'t>(met: &Met<'t>) -> Option<&'t Tree> {
-    let mut records = Vec::new();
-    put_records(met.list, &mut records);
-    let tested = !met.inside && met.left.is_some();
-    (tested && !met.fits()).then(|| records[met.looked() - 1])
-}
-
-fn put_records<'t>(tree: &'t Tree, records: &mut Vec<&'t Tree>) {
-    records.push(tree);
-    match tree {
-        Tree::Symbol(_) | Tree::Int(_) => {}
-        Tree::Binding(_, inner) => put_records(inner, records),
-        Tree::List(items) => items.iter().for_each(|item| put_records(item, records)),
-    }
-}
-
 fn is_empty(met: &Met) -> bool {
-    !met.inside && met.own() == 1
+    !met.inside && met.is_empty()
 }
 
 /// What some list of a case is to show.
 type Shown = fn(&Met) -> bool;
 const SHOWN: &[(&str, Shown)] = &[
-    ("its own record settles", |met| met.own() > 1 && settling(met).is_some() && met.looked() == 1),
-    ("its last record settles", |met| met.own() > 1 && settling(met).is_some() && met.looked() == met.own()),
-    ("a list in it settles", |met| met.looked() > 1 && matches!(settling(met), Some(Tree::List(_)))),
-    ("a binding settles", |met| matches!(settling(met), Some(Tree::Binding(..)))),
+    ("it is one short of fitting", |met| {
+        !met.inside && met.left.is_some_and(|left| left + 1 == cost(met.list))
+    }),
+    ("its cost takes more than a byte", |met| met.looked() > 0 && cost(met.list) > 255),
     ("it fits, and nothing is left", |met| !met.inside && met.left == Some(cost(met.list))),
     ("its column is past the width", |met| !met.inside && met.left.is_none()),
     ("it is empty and past the width", |met| is_empty(met) && met.left.is_none()),
@@ -151,8 +127,7 @@ fn cases_of_q_tell_counts_apart() {
             }
             let right: usize = met.iter().map(Met::looked).sum();
             assert_eq!(CrateSide.lay_out(&trees, width).looked, right, "case {number}");
-            let records: usize = trees.iter().map(|tree| shares(tree).len()).sum();
-            assert!(right <= DEPTH * records, "case {number}");
+            assert!(right <= met.len(), "case {number}");
             for (count, (_, wrong)) in differ.iter_mut().zip(WRONG) {
                 *count += usize::from(met.iter().map(wrong).sum::<usize>() != right);
             }
