@@ -62,14 +62,13 @@ pub fn nested(lists: usize, bytes: usize) -> String {
     text + &")".repeat(lists)
 }
 
-/// The width at which [`worst`] is looked at most.
-pub const WORST_WIDTH: u32 = 2126;
+/// The width at which no list of [`deep`] fits; the innermost wants one more.
+pub const DEEP_WIDTH: u32 = 2126;
 
-/// Lists that never fit and are looked at as far as can be: 64, one in the other, and in the innermost 1,000 symbols, all of one
-/// byte but the last, which has 64. List j stands at column j - 1, reaches to 2127 - j without the last symbol and to 2191 - j with
-/// it; so at width 2126 each has room for all but the last symbol, which settles its test, and each looks at all that it has.
-pub fn worst() -> String {
-    ["(".repeat(64), "a ".repeat(999), "w".repeat(64), ")".repeat(64)].concat()
+/// Up to 64 lists, one in the other, and in the innermost 1,000 symbols, all of one byte but the last. List j of n stands at column
+/// j - 1, and its cost reaches to 2127 + n - j: a test that went through records would go through all of them for each list.
+pub fn deep(lists: usize) -> String {
+    ["(".repeat(lists), "a ".repeat(999), "w".repeat(128 - lists), ")".repeat(lists)].concat()
 }
 
 /// A settings file of so many bytes with as many records as it can have: an edition, then kinds that are skipped, each with no

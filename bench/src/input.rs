@@ -10,7 +10,7 @@ const PART: usize = 65_536;
 const SMALL: usize = 24_576;
 
 /// Writes the input, its part, and the part as often as it goes into the limit, so that growth compares like with like; and a
-/// list and nested lists, each of both lengths, and those that the fits test looks at most. The input is a file's, or generated
+/// list and nested lists, each of both lengths, and lists of several depths that never fit. The input is a file's, or generated
 /// where there is no file's name.
 pub fn write(from: &str, folder: &str) -> Result<(), String> {
     let text = match from {
@@ -22,7 +22,7 @@ pub fn write(from: &str, folder: &str) -> Result<(), String> {
     let (whole, small) = (front(&text, LIMIT)?, front(&text, SMALL)?);
     let [list, list_part] = [LIMIT, PART].map(|bytes| generate::nested(1, bytes));
     let [nest, nest_part] = [LIMIT, PART].map(|bytes| generate::nested(60, bytes));
-    let worst = generate::worst();
+    let [deep_1, deep_16, deep_64] = [1, 16, 64].map(generate::deep);
     let texts = [
         ("whole", whole),
         ("part", part),
@@ -32,7 +32,9 @@ pub fn write(from: &str, folder: &str) -> Result<(), String> {
         ("list_part", &list_part),
         ("nest", &nest),
         ("nest_part", &nest_part),
-        ("worst", &worst),
+        ("deep_1", &deep_1),
+        ("deep_16", &deep_16),
+        ("deep_64", &deep_64),
     ];
     for (name, text) in texts {
         std::fs::write(format!("{folder}/{name}"), text).map_err(|error| format!("{folder}: {error}"))?;

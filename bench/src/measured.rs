@@ -5,7 +5,7 @@ use std::panic::{AssertUnwindSafe, catch_unwind};
 use std::time::{Duration, Instant};
 
 use crate::ffi::{self, kind};
-use crate::generate::{self, WORST_WIDTH};
+use crate::generate::{self, DEEP_WIDTH};
 use crate::input::{self, Tree};
 use crate::lexer::Lexer;
 use crate::printer::{SExpr, ToSExpr, print_node};
@@ -25,11 +25,11 @@ struct Print {
     trees: Vec<SExpr>,
     table: Vec<u8>,
     left_out: usize,
-    /// The records that the fits test looks at.
+    /// The lists that the fits test looks at.
     looked: u64,
 }
 
-pub const WIDTHS: [u32; 5] = [0, 40, 100, u32::MAX, WORST_WIDTH];
+pub const WIDTHS: [u32; 5] = [0, 40, 100, u32::MAX, DEEP_WIDTH];
 
 /// The lengths of settings files that are checked: half the limit, and the limit.
 const SETTINGS: [usize; 2] = [32_768, 65_536];
@@ -98,12 +98,12 @@ impl Print {
         Ok(Print { width, trees, table, left_out, looked: 0 })
     }
 
-    /// How many records the table has: each begins with its length.
-    fn records(&self) -> usize {
+    /// How many lists the table has, which are of kind 5: each record begins with its length and its kind.
+    fn lists(&self) -> usize {
         let (mut rest, mut count) = (&self.table[..], 0);
-        while let Some((length, _)) = rest.split_first_chunk() {
+        while let Some((length, after)) = rest.split_first_chunk() {
+            count += usize::from(after.starts_with(&[5, 0]));
             rest = &rest[u32::from_le_bytes(*length) as usize..];
-            count += 1;
         }
         count
     }
@@ -301,11 +301,11 @@ pub fn time(file: &str) -> Result<(), String> {
     Ok(())
 }
 
-/// A line for each width: the records that the fits test looks at, and those in the table.
+/// A line for each width: the lists that the fits test looks at, and those in the table.
 pub fn looked(file: &str, widths: &[&str]) -> Result<(), String> {
     for width in widths {
         for print in Job::new(file, Some(&format!("print_{width}_")))?.prints {
-            println!("{width} {} {}", print.looked, print.records());
+            println!("{width} {} {}", print.looked, print.lists());
         }
     }
     Ok(())

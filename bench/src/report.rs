@@ -2,7 +2,7 @@
 
 use std::collections::HashMap;
 
-use crate::generate::WORST_WIDTH;
+use crate::generate::DEEP_WIDTH;
 
 /// Lines of a name and numbers, as the script writes them.
 type Lines = HashMap<String, Vec<f64>>;
@@ -65,32 +65,35 @@ const LOOKED: &[(&str, &str, u32)] = &[
     ("the input, width 4294967295", "whole", u32::MAX),
     ("one list, width 100", "list", 100),
     ("60 lists, width 100", "nest", 100),
-    ("64 lists, width 2126", "worst", WORST_WIDTH),
+    ("1 deep, width 2126", "deep_1", DEEP_WIDTH),
+    ("16 deep, width 2126", "deep_16", DEEP_WIDTH),
+    ("64 deep, width 2126", "deep_64", DEEP_WIDTH),
 ];
 
-/// The records that the fits test looks at, beside those in the table and the most that there can be.
-fn by_records(folder: &str) -> Result<(), String> {
+/// The lists that the fits test looks at, beside those in the table; and that a print's work does not grow with their depth.
+fn by_lists(folder: &str) -> Result<(), String> {
     println!(
-        "\nrecords that the fits test looks at in a print, beside the records in the table and 64 times as many"
+        "\nlists that the fits test looks at in a print, at most those in the table, which stand beside them"
     );
     println!(
-        "64 lists: one in the other around 1,000 symbols, of which the last is too long for each list at this width\n"
+        "deep: so many lists, one in the other, around 1,000 symbols; none of them fits at this width\n"
     );
-    println!("{:<27} {:>9} {:>9} {:>6} {:>9}", "", "looked", "records", "ratio", "at most");
+    println!("{:<27} {:>9} {:>9} {:>6}", "", "looked", "lists", "ratio");
     for (title, name, width) in LOOKED {
         let lines = lines(&format!("{folder}/{name}.looked"))?;
-        let Some([looked, records]) = lines.get(&width.to_string()).map(Vec::as_slice) else {
+        let Some([looked, lists]) = lines.get(&width.to_string()).map(Vec::as_slice) else {
             return Err(format!("{title} was not counted"));
         };
-        println!("{title:<27} {looked:>9} {records:>9} {:>6.2} {:>9}", looked / records, 64.0 * records);
+        println!("{title:<27} {looked:>9} {lists:>9} {:>6.2}", looked / lists);
+        if looked > lists {
+            return Err(format!("{title}: a list was looked at twice"));
+        }
     }
-    // at width 0 the text is the same, and one record settles that nothing fits
-    let worst = lines(&format!("{folder}/worst.counts"))?;
-    let [most, least] = ["bench_print_2126_ours", "bench_print_0_ours"].map(|name| per_byte(&worst, name));
-    println!(
-        "64 lists: {:.1} instructions per output byte, and {:.1} at width 0, where the text is the same and one record is looked at",
-        most?, least?
-    );
+    let [one, some, most] = ["deep_1", "deep_16", "deep_64"].map(|name| {
+        lines(&format!("{folder}/{name}.counts"))
+            .and_then(|counts| per_byte(&counts, "bench_print_2126_ours"))
+    });
+    println!("1, 16 and 64 deep: {:.1}, {:.1} and {:.1} instructions per output byte", one?, some?, most?);
     Ok(())
 }
 
@@ -186,7 +189,7 @@ pub fn table(folder: &str) -> Result<(), String> {
         );
     }
     by_windows(folder)?;
-    by_records(folder)?;
+    by_lists(folder)?;
     by_settings(&whole)
 }
 

@@ -17,7 +17,7 @@
 #include <stdint.h>
 
 /* MAJOR grows when something changes that a caller relies on, MINOR when something is added. */
-#define TULBAZHIK_VERSION_MAJOR 3
+#define TULBAZHIK_VERSION_MAJOR 4
 #define TULBAZHIK_VERSION_MINOR 0
 
 /* Bytes of a source; bytes of a table, enough for the table of any source; bytes of a settings file; lists and bindings open at
@@ -28,7 +28,7 @@
 #define TULBAZHIK_DEPTH_LIMIT 64
 
 /* Bytes of stack that no call exceeds, at 64 levels of nesting. It is measured, not proved: host/check paints a stack,
-   makes the calls, looks how far down it was touched, and says how much that was: 21,000 bytes when this was written. */
+   makes the calls, looks how far down it was touched, and says how much that was: 20,000 bytes when this was written. */
 #define TULBAZHIK_STACK 65536
 
 #if defined(__GNUC__)
@@ -54,7 +54,7 @@ typedef struct tulbazhik_answer {
     };
     uint64_t high, low; /* an integer in two's complement, its high and its low 64 bits; an edition or a width is low */
     uint64_t used;      /* bytes consumed of a piece */
-    uint64_t looked;    /* records that the fits test of a print looked at */
+    uint64_t looked;    /* lists whose cost the fits test of a print looked at */
     uint64_t side;      /* of a setting: whose file it is from, or which file is at fault; below */
 } tulbazhik_answer;
 
@@ -106,6 +106,7 @@ enum {
     TULBAZHIK_MISSING_TREES = 22,   /* trees are missing; the table's length */
     TULBAZHIK_BAD_SETTINGS = 23,    /* a bad settings file; the first bad record or second of its kind, 0 if no edition is first */
     TULBAZHIK_NOT_SET = 24,         /* a setting is in neither settings file; 0 */
+    TULBAZHIK_WRONG_COST = 25,      /* a list stores a wrong cost; the record, an outer list's before those inside it */
     TULBAZHIK_BAD_STYLE_NAME = 26   /* a style name not of 1 to 32 bytes; its length */
 };
 
@@ -115,16 +116,23 @@ enum {
    bytes 4 and 5  the kind
    from byte 6    the payload:
 
-   kind     length  payload                     what follows
+   kind     length  payload                                             what follows
    SYMBOL   6 + n   its n bytes, at least one
    INTEGER  22      16 bytes, two's complement
-   BINDING  6 + n   the name's n bytes          its tree
-   LIST     10      4 bytes, the item count     the items, so many trees */
+   BINDING  6 + n   the name's n bytes                                  its tree
+   LIST     14      the item count, then the list's cost, 4 bytes each  the items, so many trees
+
+   The cost of a symbol or an integer is the length of its text, that of a binding its name's length, 3 and its tree's cost, that of
+   a list its item count, 1 and its items' costs. tulbazhik_read stores it with each list; a table made or changed by hand has to
+   store it too, for a list with another number there is refused (25).
+   Up to version 3 a list was a record of kind 4 and length 10, without its cost. Kind 4 is unknown now, so a table of that time is
+   refused at its first list (20): make it anew by reading its source again; where that is gone, what version 3 prints of the table
+   is such a source. A table without lists is the same in both. */
 enum {
     TULBAZHIK_RECORD_SYMBOL = 1,
     TULBAZHIK_RECORD_INTEGER = 2,
     TULBAZHIK_RECORD_BINDING = 3,
-    TULBAZHIK_RECORD_LIST = 4
+    TULBAZHIK_RECORD_LIST = 5
 };
 
 /* A settings file is records of the same form, TULBAZHIK_SETTINGS_LIMIT bytes at most in all:
@@ -173,12 +181,13 @@ void tulbazhik_close(tulbazhik_state *state, tulbazhik_answer *answer) TULBAZHIK
 void tulbazhik_read(const uint8_t *source, size_t length, uint8_t *table, size_t room, tulbazhik_answer *answer)
     TULBAZHIK_NONNULL;
 
-/* A table laid out at a width as a text in `text`: DONE, or REFUSED. Bytes of the room after the text stay as they were.
+/* A table laid out at a width as a text in `text`: DONE, or REFUSED: for the table's length (1), for the first record that is at
+   fault (15, 20, 21, 13 or 16) or for missing trees (22), then for the first list that stores a wrong cost (25), then for want of
+   room (18). Bytes of the room after the text stay as they were.
    Integers are decimal, but for -2^127: it is `0x8` and 31 zeros, for no spelling with a minus is read as it.
-   With DONE, `looked` is how many records the fits test looked at. A list is tested unless it is inside one that fitted; a test
-   looks at the list's records in preorder, up to and including the one that settles that it does not fit, or at all of its
-   own, and at none if the column is past the width. The number is at most 64 times the records in the table; where it is many
-   times as many, lists far down are looked at again for each list around them that does not fit. */
+   With DONE, `looked` is how many lists the fits test looked at. A list is tested, an empty one too, unless it is inside one that
+   fitted; a test looks at the cost that the list stores, or at nothing if the column is past the width. So the number is at most
+   that of the lists in the table, however deep they stand. */
 void tulbazhik_print(const uint8_t *table, size_t length, uint32_t width, uint8_t *text, size_t room,
                      tulbazhik_answer *answer) TULBAZHIK_NONNULL;
 

@@ -2,7 +2,7 @@
 //!
 //! A source at hand is lexed by [`tokens`] or [`next_token`]; one that comes in pieces by a [`Feeder`].
 //! [`read`] makes a table of a source's trees, and [`print`] lays a table out at a width; [`Printing`] does so window by window.
-//! A print also says how much it looked at to choose its lines: [`Text::looked`].
+//! A print also says how many lists it looked at to choose its lines: [`Text::looked`].
 //! [`Settings`] looks up what a project's settings file sets, with the house file behind it; [`write_width`] and [`write_style`]
 //! make a copy of such a file.
 //! A refusal is an [`Error`]: a number (by name in [`numbers`]), a place, and words with line, column and a caret.

@@ -33,6 +33,7 @@ pub const WRONG_LENGTH: u8 = 21;
 pub const MISSING_TREES: u8 = 22;
 pub const BAD_SETTINGS: u8 = 23;
 pub const NOT_SET: u8 = 24;
+pub const WRONG_COST: u8 = 25;
 pub const BAD_STYLE_NAME: u8 = 26;
 
 /// What a number says.
@@ -61,6 +62,7 @@ pub fn meaning(number: u8) -> &'static str {
         MISSING_TREES => "trees are missing at the table's end",
         BAD_SETTINGS => "a settings file's record is bad or the second of its kind, or no edition is first",
         NOT_SET => "set in neither settings file",
+        WRONG_COST => "a list's stored cost is wrong",
         BAD_STYLE_NAME => "a style name's length is not 1 to 32 bytes",
         _ => "unknown",
     }

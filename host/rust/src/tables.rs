@@ -8,15 +8,13 @@ use crate::numbers;
 #[derive(Clone, Debug, PartialEq, Eq)]
 pub struct Text {
     pub bytes: Vec<u8>,
-    /// How many records the fits test looked at.
+    /// How many lists the fits test looked at.
     ///
-    /// A list goes on one line if it fits there, with all that is inside it. To see whether it does, its records are looked at in
-    /// order, up to and including the one that settles that it does not, or all of them; none where the line is already too long.
-    /// In a list that does not fit, each list is then tested in its turn.
+    /// A list goes on one line if it fits there, with all that is inside it. To see whether it does, the cost that it stores is
+    /// looked at; nothing where the line is already too long. In a list that does not fit, each list is then tested in its turn.
     ///
-    /// So a number below that of the table's records, or about as large, says that lists fit or are soon seen not to. One that is
-    /// many times as large says that what stands deep in lists is looked at again and again, once for each list around it that
-    /// is just too long: there flatter rules, or another width, print with less work. It is never above 64 times the records.
+    /// So a number far below that of the table's lists says that most stand inside lists that fit. It is never above the number of
+    /// the lists, however deep they stand.
     pub looked: u64,
 }
 
@@ -39,11 +37,13 @@ pub fn read_into(source: &[u8], room: &mut [u8]) -> Result<usize, Error> {
     length_of(words)
 }
 
-/// The table of a source's trees.
+/// The table of a source's trees. Each list's record stores the item count and the list's cost.
 ///
 /// ```
 /// let table = tulbazhik::read(b"x @ (a)")?;
-/// assert_eq!(table, [7, 0, 0, 0, 3, 0, b'x', 10, 0, 0, 0, 4, 0, 1, 0, 0, 0, 7, 0, 0, 0, 1, 0, b'a']);
+/// let (binding, symbol) = ([7, 0, 0, 0, 3, 0, b'x'], [7, 0, 0, 0, 1, 0, b'a']);
+/// let list = [14, 0, 0, 0, 5, 0, 1, 0, 0, 0, 3, 0, 0, 0]; // one item, cost 3
+/// assert_eq!(table, [&binding[..], &list, &symbol].concat());
 /// # Ok::<(), tulbazhik::Error>(())
 /// ```
 pub fn read(source: &[u8]) -> Result<Vec<u8>, Error> {
@@ -65,19 +65,27 @@ pub fn print_into(table: &[u8], width: u32, room: &mut [u8]) -> Result<Printed, 
 
 /// The text of a table at a width.
 ///
+/// A table of version 3 or before, whose lists are of kind 4 and store no cost, is refused with 20 at its first list: make it anew
+/// by reading its source again, or, where that is gone, what version 3 prints of it.
+///
 /// ```
-/// let table = tulbazhik::read(b"(rule (a b) c)")?;
+/// let mut table = tulbazhik::read(b"(rule (a b) c)")?;
 /// let text = tulbazhik::print(&table, 14)?;
 /// assert_eq!(text.bytes, b"(rule (a b) c)\n");
-/// assert_eq!(text.looked, 6); // the table's records, each once: nothing is tested inside a list that fits
+/// assert_eq!(text.looked, 1); // nothing is tested inside a list that fits
 ///
 /// let text = tulbazhik::print(&table, 13)?;
 /// assert_eq!(text.bytes, b"(rule\n    (a b)\n    c\n)\n");
-/// assert_eq!(text.looked, 9); // all six to see that the list is too long by one, and the three of `(a b)`
+/// assert_eq!(text.looked, 2); // the list, which is too long by one, and `(a b)`
 ///
 /// // a table that the link cut off between two records
 /// let error = tulbazhik::print(&table[..table.len() - 7], 14).expect_err("an item is missing");
-/// assert_eq!(error.to_string(), "refusal 22 at 44: trees are missing at the table's end");
+/// assert_eq!(error.to_string(), "refusal 22 at 52: trees are missing at the table's end");
+///
+/// // one in which the cost of `(a b)`, at 24, was changed from 5 to 6
+/// table[24 + 10] = 6;
+/// let error = tulbazhik::print(&table, 14).expect_err("it is 5");
+/// assert_eq!(error.to_string(), "refusal 25 at 24: a list's stored cost is wrong");
 /// # Ok::<(), tulbazhik::Error>(())
 /// ```
 pub fn print(table: &[u8], width: u32) -> Result<Text, Error> {

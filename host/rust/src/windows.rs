@@ -18,7 +18,7 @@ use crate::ffi::{self, PrintWords, kind};
 /// assert_eq!(printing.fill(&mut window)?, Some(7));
 /// assert_eq!(&window, b" b) c)\na"); // the last byte is the first window's
 /// assert_eq!(printing.fill(&mut window)?, None);
-/// assert_eq!(printing.looked(), Some(6));
+/// assert_eq!(printing.looked(), Some(1));
 /// # Ok::<(), tulbazhik::Error>(())
 /// ```
 ///
@@ -72,7 +72,7 @@ impl<'t> Printing<'t> {
         self.state
     }
 
-    /// How many records the fits test looked at: the number that [`print`](crate::print) gives as [`looked`](crate::Text::looked).
+    /// How many lists the fits test looked at: the number that [`print`](crate::print) gives as [`looked`](crate::Text::looked).
     /// None before the end was answered.
     ///
     /// ```
@@ -81,7 +81,7 @@ impl<'t> Printing<'t> {
     /// let table = tulbazhik::read(b"(rule (a b) c)").expect("no refusal");
     /// let (mut printing, mut out) = (tulbazhik::Printing::new(&table, 13), Vec::new());
     /// io::copy(&mut printing, &mut out)?;
-    /// assert_eq!(printing.looked(), Some(9));
+    /// assert_eq!(printing.looked(), Some(2));
     /// # Ok::<(), io::Error>(())
     /// ```
     pub fn looked(&self) -> Option<u64> {
@@ -132,10 +132,10 @@ impl<'t> Printing<'t> {
     /// assert_eq!(Printing::new(&table, 100).write_to(&mut out)?, 15);
     /// assert_eq!(out, b"(rule (a b) c)\n");
     ///
-    /// let error = Printing::new(&table[..44], 100).write_to(&mut out).expect_err("an item is missing");
+    /// let error = Printing::new(&table[..52], 100).write_to(&mut out).expect_err("an item is missing");
     /// assert_eq!(error.kind(), ErrorKind::InvalidData);
     /// let error: Error = error.downcast().expect("it carries the refusal");
-    /// assert_eq!((error.number, error.place), (numbers::MISSING_TREES, 44));
+    /// assert_eq!((error.number, error.place), (numbers::MISSING_TREES, 52));
     /// # Ok::<(), std::io::Error>(())
     /// ```
     pub fn write_to<W: Write + ?Sized>(&mut self, out: &mut W) -> io::Result<u64> {

@@ -1,4 +1,4 @@
-//! The records that the fits test looks at: counts by hand, and the most that there can be.
+//! The lists that the fits test looks at: counts by hand, and the most that there can be.
 
 use tulbazhik::{numbers, print, print_into, read};
 
@@ -6,45 +6,49 @@ fn looked(source: &str, width: u32) -> u64 {
     print(&read(source.as_bytes()).expect("no refusal"), width).expect("no refusal").looked
 }
 
-/// How many records a table has: each begins with its length.
-fn records(table: &[u8]) -> u64 {
-    let (mut rest, mut count) = (table, 0);
-    while let Some((length, _)) = rest.split_first_chunk() {
-        rest = &rest[u32::from_le_bytes(*length) as usize..];
-        count += 1;
-    }
-    count
-}
-
 #[test]
 fn counts_by_hand() {
     let cases: &[(&str, u32, u64)] = &[
         ("", 100, 0),
         ("a x @ b", 0, 0),
-        ("(rule (a b) c)", 14, 6),
-        ("(rule (a b) c)", 13, 9),
+        ("(rule (a b) c)", 14, 1),
+        ("(rule (a b) c)", 13, 2),
         ("()", 0, 1),
+        ("(a) (a)", 3, 2),
+        // a binding's list stands at column 4, past the width or not
         ("x @ ()", 3, 0),
         ("x @ ()", 4, 1),
-        ("(a (b (c)))", 10, 10),
-        ("(a) (a)", 3, 4),
+        // costs 11, 7 and 3, and each inner list begins a line
+        ("(a (b (c)))", 11, 1),
+        ("(a (b (c)))", 10, 2),
+        ("(a (b (c)))", 6, 3),
+        ("(a (b (c)))", 0, 3),
+        // costs 5 and 3, and the inner list stands at column 1
+        ("((a))", 5, 1),
+        ("((a))", 4, 2),
+        ("((a))", 1, 2),
+        ("((a))", 0, 1),
+        // costs 11, 1, 5 and 1
+        ("(a () (b ()))", 11, 1),
+        ("(a () (b ()))", 10, 3),
+        ("(a () (b ()))", 4, 4),
     ];
     for &(source, width, count) in cases {
         assert_eq!(looked(source, width), count, "{source} at width {width}");
     }
 }
 
-/// 64 lists, one in the other, around 1,000 symbols: at width 2,126 each looks at all that it has, for its last record alone is too much.
+/// 64 lists, one in the other, around 1,000 symbols: at width 2,126 none fits, and each is looked at once.
 #[test]
-fn deep_lists_are_looked_at_again_and_again() {
+fn deep_lists_are_looked_at_once() {
     let source = ["(".repeat(64), "a ".repeat(999), "w".repeat(64), ")".repeat(64)].concat();
-    let table = read(source.as_bytes()).expect("no refusal");
-    assert_eq!((records(&table), looked(&source, 2126)), (1064, 66_080));
-    assert!(looked(&source, 2126) <= 64 * records(&table));
-    // one more, and the innermost list fits, which takes as much to see
-    assert_eq!(looked(&source, 2127), 66_080);
-    // the outermost fits, and is looked at once
-    assert_eq!(looked(&source, u32::MAX), 1064);
+    assert_eq!(looked(&source, 2126), 64);
+    // one more, and the innermost fits
+    assert_eq!(looked(&source, 2127), 64);
+    // the outermost fits
+    assert_eq!(looked(&source, u32::MAX), 1);
+    // they stand at columns 0 to 63
+    assert_eq!([0, 31, 62, 63].map(|width| looked(&source, width)), [1, 32, 63, 64]);
 }
 
 #[test]
@@ -54,5 +58,5 @@ fn a_lent_room_gives_the_same_count() {
     let error = print_into(&table, 13, &mut room[..23]).expect_err("a byte is wanting");
     assert_eq!((error.number, error.place, room), (numbers::PRINT_ROOM, 24, [b'#'; 25]));
     let printed = print_into(&table, 13, &mut room).expect("it has room");
-    assert_eq!((printed.len, printed.looked, room[24]), (24, 9, b'#'));
+    assert_eq!((printed.len, printed.looked, room[24]), (24, 2, b'#'));
 }
