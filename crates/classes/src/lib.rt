@@ -1,4 +1,5 @@
 // What a byte is: a table of the class of every byte, and the tests that loops over runs of bytes ask. One computed test over all 256 bytes proves them all.
+#![tactic(auto)]
 mod numbers;
 pub mod runs;
 
@@ -6,7 +7,7 @@ ghost use Rattle.std.specs.Prelude.{◌≡◌};
 ghost use Rattle.classes.specs.Classes.{class_of, space, blank, line_end, semicolon, lparen, rparen, is_at_sign, decimal, symbol_first, symbol_other, high, digit_of, literal_byte};
 ghost use Rattle.classes.specs.Numbers.{named};
 
-#[derive(Drop)]
+#[derive(Clone, Copy)]
 pub enum Class {
     Space,
     LineEnd,

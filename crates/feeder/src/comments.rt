@@ -8,7 +8,7 @@ use crate::runs::Moved;
 use crate::{Half, Mode};
 
 // A block comment is left, or goes on at a depth.
-#[derive(Drop)]
+#[derive(Clone, Copy)]
 pub enum Inside {
     Out,
     In(usize, Half),

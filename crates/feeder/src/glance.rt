@@ -5,7 +5,7 @@ ghost use Rattle.feeder.specs.PrivateRuns.{token_by, Ran, Shown};
 use lexer::Token;
 
 // A token's bytes in the piece, from `start` up to `end`; an end of 0 says that none was seen.
-#[derive(Drop)]
+#[derive(Clone, Copy)]
 pub struct Seen {
     pub start: usize,
     pub end: usize,

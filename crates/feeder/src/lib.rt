@@ -1,4 +1,5 @@
 // Feeding in pieces: a state and a piece give a token, "more" or a refusal, the bytes consumed, and the new state.
+#![tactic(auto)]
 mod comments;
 mod glance;
 mod literals;
@@ -15,7 +16,7 @@ use refusals::Refusal;
 use wide::Limbs;
 
 // Half of `(;` or `;)` in a block comment.
-#[derive(Drop)]
+#[derive(Clone, Copy)]
 pub enum Half {
     Clear,
     Semi,
@@ -23,7 +24,7 @@ pub enum Half {
 }
 
 // What is held, from its start on.
-#[derive(Drop)]
+#[derive(Clone, Copy)]
 pub enum Mode {
     Blank,
     Line,
@@ -53,21 +54,21 @@ pub enum Mode {
     },
 }
 
-#[derive(Drop)]
+#[derive(Clone, Copy)]
 pub enum Phase {
     Live(Mode),
     Closed,
     Refused(Refusal),
 }
 
-#[derive(Drop)]
+#[derive(Clone, Copy)]
 pub struct State {
     pub phase: Phase,
     // The bytes consumed so far.
     pub place: usize,
 }
 
-#[derive(Drop)]
+#[derive(Clone, Copy)]
 pub enum Answer {
     More,
     End,
@@ -76,13 +77,13 @@ pub enum Answer {
     Refused(Refusal),
 }
 
-#[derive(Drop)]
+#[derive(Clone, Copy)]
 pub struct Out {
     pub answer: Answer,
     pub used: usize,
 }
 
-#[derive(Drop)]
+#[derive(Clone, Copy)]
 pub struct Fed {
     pub out: Out,
     pub state: State,

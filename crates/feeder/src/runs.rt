@@ -14,7 +14,7 @@ use lexer::Token;
 use refusals::Refusal;
 
 // Where a run ends: in a mode before a byte of the piece; with a token or a refusal, and the bytes consumed.
-#[derive(Drop)]
+#[derive(Clone, Copy)]
 pub enum Moved {
     On(Mode, usize),
     Give(Token, usize, usize),

@@ -1,4 +1,5 @@
 // The program of document 01: reads rules from standard input and writes them laid out at width 100, or the refusal.
+#![tactic(auto)]
 use printer::Printed;
 use reader::Readout;
 use refusals::Refusal;

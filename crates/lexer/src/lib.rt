@@ -1,4 +1,5 @@
 // The uncut lexer, a port of the crate's `Lexer::next_token`: skip blanks and comments, then one token.
+#![tactic(auto)]
 pub mod literal;
 
 ghost use Rattle.std.specs.Prelude.{◌≡◌, true, false, ◌+◌, ◌-◌, ◌≤◌, ◌<◌, length, drop};
@@ -14,7 +15,7 @@ use classes::Class;
 use refusals::Refusal;
 use wide::Wide;
 
-#[derive(Drop)]
+#[derive(Clone, Copy)]
 pub enum Token {
     LParen,
     RParen,
@@ -25,7 +26,7 @@ pub enum Token {
     Int(Wide, usize),
 }
 
-#[derive(Drop)]
+#[derive(Clone, Copy)]
 pub enum Lexed {
     // The next token, and its start.
     Token(Token, usize),
@@ -34,7 +35,7 @@ pub enum Lexed {
 }
 
 // What two bytes of a block comment are together.
-#[derive(Drop)]
+#[derive(Clone, Copy)]
 enum Mark {
     Opener,
     Closer,
@@ -42,7 +43,7 @@ enum Mark {
 }
 
 // Where a block comment ends.
-#[derive(Drop)]
+#[derive(Clone, Copy)]
 enum Block {
     Past(usize),
     Open,

@@ -9,7 +9,7 @@ use refusals::Refusal;
 use wide::{Grown, Limbs, Signed};
 
 // What the digits so far read as: the refusal of the first digit that is foreign or too much stays.
-#[derive(Drop)]
+#[derive(Clone, Copy)]
 pub enum Reading {
     Empty,
     Bad(Refusal),
@@ -17,7 +17,7 @@ pub enum Reading {
 }
 
 // The digits from a place on, and the place past them.
-#[derive(Drop)]
+#[derive(Clone, Copy)]
 pub struct Digits {
     pub reading: Reading,
     pub end: usize,

@@ -1,4 +1,6 @@
 // Lists and buffers: what every crate says and knows of bytes in a slice.
+#![tactic(auto)]
+
 ghost use Rattle.std.specs.Prelude.{◌≡◌, ◌-◌, ◌≤◌, length, take, get_or};
 ghost use Rattle.lists.specs.Over.{over, fitted};
 
@@ -111,5 +113,6 @@ pub fn put(s: &[u8], out: &mut [u8]) -> usize
         put_eight(&s[k..], &mut out[k..]);
         return n;
     }
-    bytes::copy(s, out)
+    out[..n].copy_from_slice(s);
+    n
 }

@@ -5,7 +5,7 @@ ghost use Rattle.printer.specs.Looking.{looks};
 ghost use Rattle.printer.specs.Fitting.{fits_at};
 
 // Whether a list fits, and the records that were looked at for it.
-#[derive(Drop)]
+#[derive(Clone, Copy)]
 pub struct Tested {
     pub fits: bool,
     pub looked: usize,

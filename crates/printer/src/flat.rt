@@ -9,7 +9,7 @@ ghost use Rattle.printer.specs.PrivateWriting.{line, Written};
 use crate::{atoms, room};
 use table::Record;
 
-#[derive(Drop)]
+#[derive(Clone, Copy)]
 pub struct Run {
     // The place past the tree.
     pub next: usize,

@@ -1,4 +1,5 @@
 // The layout of a table at a width, a port of the crate's `Printer`: checked and measured in one walk, then laid into the room lent.
+#![tactic(auto)]
 mod atoms;
 pub mod cost;
 mod flat;
@@ -22,14 +23,14 @@ use measure::Measured;
 use refusals::Refusal;
 use table::Record;
 
-#[derive(Drop)]
+#[derive(Clone, Copy)]
 pub enum Printed {
     // The bytes written, and the records that the fits test looked at.
     Text(usize, usize),
     Refused(Refusal),
 }
 
-#[derive(Drop)]
+#[derive(Clone, Copy)]
 struct Laid {
     // The place past the tree.
     next: usize,

@@ -14,7 +14,7 @@ use records::HEAD;
 use refusals::Refusal;
 use table::{Step, walk};
 
-#[derive(Drop)]
+#[derive(Clone, Copy)]
 pub struct Size {
     // A refusal's number, or 0.
     pub number: u8,
@@ -27,7 +27,7 @@ pub struct Size {
     pub len: usize,
 }
 
-#[derive(Drop)]
+#[derive(Clone, Copy)]
 pub enum Measured {
     Bytes(usize),
     Refused(Refusal),

@@ -6,14 +6,14 @@ use feeder::{Answer, Fed, State};
 const TURNS: usize = 4000000;
 
 // What an op asks for: the lent state or the one by value; every call, and extra ones, or the tokens alone.
-#[derive(Drop)]
+#[derive(Clone, Copy)]
 pub struct Style {
     pub lent: bool,
     pub calls: bool,
 }
 
 // A state, the part of the source to be fed next, and the bytes on the page.
-#[derive(Drop)]
+#[derive(Clone, Copy)]
 struct Drive {
     state: State,
     at: usize,
@@ -23,7 +23,7 @@ struct Drive {
 }
 
 // What comes next: a feed, the first close, a later one, or nothing but the extra calls.
-#[derive(Drop)]
+#[derive(Clone, Copy)]
 enum After {
     Feed,
     Close,

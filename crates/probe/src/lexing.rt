@@ -6,7 +6,7 @@ use lexer::{Lexed, Token};
 const TURNS: usize = 1200000;
 
 // After one token: where to go on, the bytes on the page, and whether there is more.
-#[derive(Drop)]
+#[derive(Clone, Copy)]
 struct After {
     at: usize,
     n: usize,

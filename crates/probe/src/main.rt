@@ -2,6 +2,7 @@
 // A frame is an op byte, three numbers a, b, n of four bytes, the lowest first, and n bytes; an answer is some lines and a line with a dot.
 // A frame that the input's end cuts, or that does not fit the source's room, ends the run.
 // The files stdin and stdout beside src/ are `oracle sample --cases 400 stdin stdout`: fixed cases with the Rust's and the documents' answers.
+#![tactic(auto)]
 mod entrances;
 mod feeding;
 mod lexing;
@@ -17,7 +18,7 @@ use windowed::Job;
 // More frames than any input has.
 const FRAMES: u64 = 0x7fff_ffff_ffff_ffff;
 
-#[derive(Drop)]
+#[derive(Clone, Copy)]
 struct Frame {
     op: u8,
     a: usize,
@@ -25,14 +26,14 @@ struct Frame {
     len: usize,
 }
 
-#[derive(Drop)]
+#[derive(Clone, Copy)]
 enum Next {
     Is(Frame),
     Nothing,
 }
 
 // After a frame: the bytes on the page, and whether there may be more frames.
-#[derive(Drop)]
+#[derive(Clone, Copy)]
 struct After {
     n: usize,
     more: bool,

@@ -12,7 +12,7 @@ const EDGE: usize = 16;
 const MOST: usize = 2097152;
 
 // What a frame asks for: V shows each answer, v only whether the call kept to its window.
-#[derive(Drop)]
+#[derive(Clone, Copy)]
 pub struct Job {
     pub shown: bool,
     pub first_width: usize,
@@ -20,7 +20,7 @@ pub struct Job {
 }
 
 // After a call: the bytes on the page, and the state for the next one.
-#[derive(Drop)]
+#[derive(Clone, Copy)]
 struct After {
     n: usize,
     state: State,

@@ -1,4 +1,5 @@
 // The reader: the trees of a source, as a node table, or the first refusal. One walk over a room that may be too short: first over none, to measure and refuse, then over the room lent.
+#![tactic(auto)]
 mod parts;
 mod put;
 
@@ -14,7 +15,7 @@ use lexer::{Lexed, Token};
 use parts::{Look, ManyRead, OneRead, Stop};
 use refusals::Refusal;
 
-#[derive(Drop)]
+#[derive(Clone, Copy)]
 pub enum Readout {
     // The bytes of the table.
     Table(usize),

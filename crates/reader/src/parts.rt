@@ -7,7 +7,7 @@ ghost use Rattle.reader.specs.declared.parts.Stop.TheVariants as stop;
 use lexer::{Lexed, Token};
 
 // A tree, or a refusal.
-#[derive(Drop)]
+#[derive(Clone, Copy)]
 pub struct OneRead {
     pub refused: bool,
     pub number: u8,
@@ -19,14 +19,14 @@ pub struct OneRead {
 }
 
 // What stopped trees in a row.
-#[derive(Drop)]
+#[derive(Clone, Copy)]
 pub enum Stop {
     Close,
     End,
     Refusal,
 }
 
-#[derive(Drop)]
+#[derive(Clone, Copy)]
 pub struct ManyRead {
     pub stop: Stop,
     pub number: u8,
@@ -38,7 +38,7 @@ pub struct ManyRead {
     pub cost: usize,
 }
 
-#[derive(Drop)]
+#[derive(Clone, Copy)]
 pub enum Look {
     // A symbol: its start and its length.
     Name(usize, usize),

@@ -1,4 +1,5 @@
 // The format of records: the length of the whole record in 4 bytes, its kind in 2, its payload, all little-endian. Tables and whatever else is kept in records go through here.
+#![tactic(auto)]
 ghost use Rattle.std.specs.Prelude.{◌≡◌, ◌++◌, ◌+◌};
 ghost use Rattle.lists.specs.Over.{fitted};
 ghost use Rattle.wide.specs.Bytes.{le, number_in};
@@ -7,7 +8,7 @@ ghost use Rattle.records.specs.Records.{head_at, head_of, record_of};
 // The bytes of a head: those of the length and of the kind.
 pub const HEAD: usize = 6;
 
-#[derive(Drop)]
+#[derive(Clone, Copy)]
 pub enum Head {
     // Fewer bytes are left than a head has, or than the length says; or the length is below a head's.
     Cut,

@@ -1,7 +1,8 @@
 // The numbers that documents 01 and 02 give instead of an answer, and the limits, by name.
+#![tactic(auto)]
 
 // A refusal: its number and its place.
-#[derive(Drop)]
+#[derive(Clone, Copy)]
 pub struct Refusal {
     pub number: u8,
     pub place: usize,

@@ -8,7 +8,7 @@ ghost use Rattle.settings.specs.PrivateFinding.{bad_at, found_in};
 use records::{HEAD, Head};
 use refusals::Refusal;
 
-#[derive(Drop)]
+#[derive(Clone, Copy)]
 pub enum Found {
     // The file is at fault.
     Bad(Refusal),

@@ -1,4 +1,5 @@
 // Settings per project: a project's file with the house file behind it. Both are checked whole at each look-up; writing makes a copy with one record replaced or added.
+#![tactic(auto)]
 mod finding;
 mod seen;
 mod splicing;
@@ -23,27 +24,27 @@ pub const STYLE: usize = 3;
 pub const FIRST_SKIPPED: usize = 32768;
 
 // Whose file an answer comes from, or which is at fault.
-#[derive(Drop)]
+#[derive(Clone, Copy)]
 pub enum Side {
     Project,
     House,
     Neither,
 }
 
-#[derive(Drop)]
+#[derive(Clone, Copy)]
 pub enum Number {
     Is(Side, usize),
     Refused(Side, Refusal),
 }
 
-#[derive(Drop)]
+#[derive(Clone, Copy)]
 pub enum Part {
     // The place of the first byte in that file, and the number of bytes.
     Of(Side, usize, usize),
     Refused(Side, Refusal),
 }
 
-#[derive(Drop)]
+#[derive(Clone, Copy)]
 pub enum Written {
     // The bytes of the copy.
     Copy(usize),

@@ -1,4 +1,5 @@
 // The node table: its records, and the check of a whole table.
+#![tactic(auto)]
 pub mod walk;
 
 ghost use Rattle.std.specs.Prelude.{◌≡◌, ◌+◌, ◌≤◌, length};
@@ -28,7 +29,7 @@ pub const INTEGER_LEN: usize = HEAD + 16;
 // A list's item count, then its cost.
 pub const LIST_LEN: usize = HEAD + 8;
 
-#[derive(Drop)]
+#[derive(Clone, Copy)]
 pub enum Record {
     // A symbol, or a binding's name: the length of its record.
     Symbol(usize),
@@ -40,7 +41,7 @@ pub enum Record {
     Bad(u8),
 }
 
-#[derive(Drop)]
+#[derive(Clone, Copy)]
 pub enum Checked {
     Good,
     Refused(Refusal),
@@ -117,7 +118,7 @@ fn is_name(t: &[u8], at: usize, len: usize) -> bool
     is_symbol(&t[start..end])
 }
 
-#[derive(Drop)]
+#[derive(Clone, Copy)]
 pub enum Step {
     // The number of the record's own refusal.
     Fault(u8),

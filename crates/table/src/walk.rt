@@ -9,7 +9,7 @@ ghost use Rattle.table.specs.Walking.{first_of, own_wrong, Walks};
 use crate::Record;
 use records::HEAD;
 
-#[derive(Drop)]
+#[derive(Clone, Copy)]
 pub struct Walked {
     // A refusal's number, or 0.
     pub number: u8,

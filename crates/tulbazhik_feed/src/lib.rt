@@ -1,4 +1,5 @@
 // The door for C to feeding: the proved functions under C names, over a state and an answer of eight words each (host/include/tulbazhik.h).
+#![tactic(auto)]
 pub mod states;
 
 ghost use Rattle.std.specs.Prelude.{◌≡◌};

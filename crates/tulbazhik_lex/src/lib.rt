@@ -1,5 +1,6 @@
 // The door for C to lexing: the proved function under a C name, over a slice, a place and an answer of eight words (host/include/tulbazhik.h).
 // Feeding, reading and printing have crates and archives of their own: where the lexer has one caller, the compiler merges the two.
+#![tactic(auto)]
 ghost use Rattle.std.specs.Prelude.{◌≡◌};
 ghost use Rattle.lexer.specs.Lexing.{next_token};
 ghost use Rattle.words.specs.Words.{answer_words};

@@ -1,4 +1,5 @@
 // The door for C to settings per project: the proved functions under C names, over slices and an answer of eight words (host/include/tulbazhik.h).
+#![tactic(auto)]
 ghost use Rattle.std.specs.Prelude.{◌≡◌, length};
 ghost use Rattle.settings.specs.LookUps.{edition_in, width_in, style_in, number_of, part_of};
 ghost use Rattle.settings.specs.Writing.{copy_of, sized, laid, width_setting, style_setting, written_of};

@@ -1,4 +1,5 @@
 // The door for C to reading and printing: the proved functions under C names, over slices and an answer of eight words (host/include/tulbazhik.h).
+#![tactic(auto)]
 ghost use Rattle.std.specs.Prelude.{◌≡◌, length};
 ghost use Rattle.reader.specs.Reading.{reading, read_into, read_of};
 ghost use Rattle.printer.specs.Printing.{printing, printed_into, print_of};

@@ -1,4 +1,5 @@
 // The door for C to printing through windows: the proved function under its C name, over slices, a state of 72 words and an answer of eight (host/include/tulbazhik.h).
+#![tactic(auto)]
 mod states;
 
 ghost use Rattle.std.specs.Prelude.{◌≡◌, []};

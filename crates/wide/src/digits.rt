@@ -6,7 +6,7 @@ ghost use Rattle.wide.specs.Text.{digits_of};
 
 use crate::Limbs;
 
-#[derive(Drop)]
+#[derive(Clone, Copy)]
 struct Tenth {
     hi: u64,
     lo: u64,

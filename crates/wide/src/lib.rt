@@ -1,4 +1,6 @@
 // Integers of 128 bits: two unsigned limbs while digits are read, an i64 high limb and a u64 low limb once they have a sign; their text; 16 bytes.
+#![tactic(auto)]
+
 mod digits;
 
 ghost use Rattle.std.specs.Prelude.{◌≡◌, ◌+◌, ◌-◌, ◌*◌, ◌/◌, ◌%◌, ◌^◌, ◌<◌, ◌≤◌, length, pos, int_lt, nat_le, unsigned_abs};
@@ -9,25 +11,25 @@ ghost use Rattle.wide.specs.Value.{val, value, grown, reduced, integer_of, signe
 ghost use Rattle.wide.specs.Text.{decimal, is_lowest, integer_text};
 ghost use Rattle.wide.specs.Bytes.{le, number_at, number_in, wide_bytes, wide_in};
 
-#[derive(Drop)]
+#[derive(Clone, Copy)]
 pub struct Limbs {
     pub hi: u64,
     pub lo: u64,
 }
 
-#[derive(Drop)]
+#[derive(Clone, Copy)]
 pub struct Wide {
     pub hi: i64,
     pub lo: u64,
 }
 
-#[derive(Drop)]
+#[derive(Clone, Copy)]
 pub enum Grown {
     Fits(Limbs),
     Over,
 }
 
-#[derive(Drop)]
+#[derive(Clone, Copy)]
 pub enum Signed {
     Is(Wide),
     Refused,
@@ -100,7 +102,7 @@ pub fn with_sign(n: Limbs, minus: bool) -> Signed
     Signed::Is(w)
 }
 
-#[derive(Drop)]
+#[derive(Clone, Copy)]
 struct Part {
     limb: u64,
     carry: u64,

@@ -14,7 +14,7 @@ use crate::{Cursor, Phase};
 use table::Record;
 
 // The bytes given, whether nothing is left of the put, and if something is, how much of the put is given by now.
-#[derive(Drop)]
+#[derive(Clone, Copy)]
 pub struct Gave {
     pub n: usize,
     pub whole: bool,

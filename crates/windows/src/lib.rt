@@ -1,4 +1,5 @@
 // The print of a table through a window of any length: a call fills the window, and the state says where the next call goes on.
+#![tactic(auto)]
 mod give;
 mod machine;
 
@@ -11,7 +12,7 @@ use refusals::Refusal;
 use table::Checked;
 
 // What is put next.
-#[derive(Drop)]
+#[derive(Clone, Copy)]
 pub enum Phase {
     // The table was not checked yet.
     Fresh,
@@ -31,7 +32,7 @@ pub enum Phase {
 }
 
 // The small fields stand first, side by side: bytes between fields would be moved with every put.
-#[derive(Drop)]
+#[derive(Clone, Copy)]
 pub struct Cursor {
     pub phase: Phase,
     // Of the innermost open list its indent, or 255 if it is on a single line.
@@ -52,14 +53,14 @@ pub struct Cursor {
     pub given: usize,
 }
 
-#[derive(Drop)]
+#[derive(Clone, Copy)]
 pub struct State {
     pub cursor: Cursor,
     // For each open list what the cursor held of the one around it: the items due, and the margin times 2^32.
     pub stack: [u64; 64],
 }
 
-#[derive(Drop)]
+#[derive(Clone, Copy)]
 pub enum Answer {
     // Bytes given: the front of the window.
     Bytes(usize),
@@ -68,14 +69,14 @@ pub enum Answer {
     Refused(Refusal),
 }
 
-#[derive(Drop)]
+#[derive(Clone, Copy)]
 pub struct Filled {
     pub answer: Answer,
     pub state: State,
 }
 
 // The same without the stack, which was lent.
-#[derive(Drop)]
+#[derive(Clone, Copy)]
 pub struct Moved {
     pub answer: Answer,
     pub cursor: Cursor,
@@ -119,7 +120,7 @@ fn start(n: usize, width: u32) -> Cursor
 }
 
 // Bytes given, and the cursor after them.
-#[derive(Drop)]
+#[derive(Clone, Copy)]
 struct Ran {
     n: usize,
     cursor: Cursor,

@@ -1,0 +1,17 @@
+-- `wide::put_u16`: two bytes where there is room.
+use Rattle.std.proofs.Common.{arith}
+use Rattle.wide.specs.Bytes.{le}
+use Rattle.wide.proofs.Numbers.{le_length}
+use Rattle.lists.proofs.Blocks.{fits_in, no_room}
+use Rattle.wide.proofs.put_u16.Goals as goal
+
+-- `wide::put_u16`: two bytes where there is room.
+pub returns-then-out-lt2 : goal.returns-then-out-lt2
+returns-then-out-lt2 c =
+    let n = c.args.n in
+    no_room (le 2 n) _ (omega (arith, le_length 2 n))
+
+pub returns : goal.returns
+returns c =
+    let n = c.args.n in
+    fits_in (le 2 n) _ _ (omega (arith, le_length 2 n)) c.put_le.ensures
