@@ -10,35 +10,35 @@ no e = true_false (sym e)
 
 pub space_is : (c : Class) → space c ≡ true → c ≡ Space
 space_is c =
-    elim c [ Space ↦ λ _. refl | LineEnd ↦ no | Semicolon ↦ no | LParen ↦ no | RParen ↦ no | AtSign ↦ no | FormFeed ↦ no | Minus ↦ no | Digit ↦ no | Other ↦ no ]
+    elim c as (λ k. space k ≡ true → k ≡ Space) [ Space ↦ λ _. refl | LineEnd ↦ no | Semicolon ↦ no | LParen ↦ no | RParen ↦ no | AtSign ↦ no | FormFeed ↦ no | Minus ↦ no | Digit ↦ no | Other ↦ no ]
 
 pub line_end_is : (c : Class) → line_end c ≡ true → c ≡ LineEnd
 line_end_is c =
-    elim c [ Space ↦ no | LineEnd ↦ λ _. refl | Semicolon ↦ no | LParen ↦ no | RParen ↦ no | AtSign ↦ no | FormFeed ↦ no | Minus ↦ no | Digit ↦ no | Other ↦ no ]
+    elim c as (λ k. line_end k ≡ true → k ≡ LineEnd) [ Space ↦ no | LineEnd ↦ λ _. refl | Semicolon ↦ no | LParen ↦ no | RParen ↦ no | AtSign ↦ no | FormFeed ↦ no | Minus ↦ no | Digit ↦ no | Other ↦ no ]
 
 pub semicolon_is : (c : Class) → semicolon c ≡ true → c ≡ Semicolon
 semicolon_is c =
-    elim c [ Space ↦ no | LineEnd ↦ no | Semicolon ↦ λ _. refl | LParen ↦ no | RParen ↦ no | AtSign ↦ no | FormFeed ↦ no | Minus ↦ no | Digit ↦ no | Other ↦ no ]
+    elim c as (λ k. semicolon k ≡ true → k ≡ Semicolon) [ Space ↦ no | LineEnd ↦ no | Semicolon ↦ λ _. refl | LParen ↦ no | RParen ↦ no | AtSign ↦ no | FormFeed ↦ no | Minus ↦ no | Digit ↦ no | Other ↦ no ]
 
 pub lparen_is : (c : Class) → lparen c ≡ true → c ≡ LParen
 lparen_is c =
-    elim c [ Space ↦ no | LineEnd ↦ no | Semicolon ↦ no | LParen ↦ λ _. refl | RParen ↦ no | AtSign ↦ no | FormFeed ↦ no | Minus ↦ no | Digit ↦ no | Other ↦ no ]
+    elim c as (λ k. lparen k ≡ true → k ≡ LParen) [ Space ↦ no | LineEnd ↦ no | Semicolon ↦ no | LParen ↦ λ _. refl | RParen ↦ no | AtSign ↦ no | FormFeed ↦ no | Minus ↦ no | Digit ↦ no | Other ↦ no ]
 
 pub rparen_is : (c : Class) → rparen c ≡ true → c ≡ RParen
 rparen_is c =
-    elim c [ Space ↦ no | LineEnd ↦ no | Semicolon ↦ no | LParen ↦ no | RParen ↦ λ _. refl | AtSign ↦ no | FormFeed ↦ no | Minus ↦ no | Digit ↦ no | Other ↦ no ]
+    elim c as (λ k. rparen k ≡ true → k ≡ RParen) [ Space ↦ no | LineEnd ↦ no | Semicolon ↦ no | LParen ↦ no | RParen ↦ λ _. refl | AtSign ↦ no | FormFeed ↦ no | Minus ↦ no | Digit ↦ no | Other ↦ no ]
 
 pub at_sign_is : (c : Class) → is_at_sign c ≡ true → c ≡ AtSign
 at_sign_is c =
-    elim c [ Space ↦ no | LineEnd ↦ no | Semicolon ↦ no | LParen ↦ no | RParen ↦ no | AtSign ↦ λ _. refl | FormFeed ↦ no | Minus ↦ no | Digit ↦ no | Other ↦ no ]
+    elim c as (λ k. is_at_sign k ≡ true → k ≡ AtSign) [ Space ↦ no | LineEnd ↦ no | Semicolon ↦ no | LParen ↦ no | RParen ↦ no | AtSign ↦ λ _. refl | FormFeed ↦ no | Minus ↦ no | Digit ↦ no | Other ↦ no ]
 
 pub decimal_is : (c : Class) → decimal c ≡ true → c ≡ Digit
 decimal_is c =
-    elim c [ Space ↦ no | LineEnd ↦ no | Semicolon ↦ no | LParen ↦ no | RParen ↦ no | AtSign ↦ no | FormFeed ↦ no | Minus ↦ no | Digit ↦ λ _. refl | Other ↦ no ]
+    elim c as (λ k. decimal k ≡ true → k ≡ Digit) [ Space ↦ no | LineEnd ↦ no | Semicolon ↦ no | LParen ↦ no | RParen ↦ no | AtSign ↦ no | FormFeed ↦ no | Minus ↦ no | Digit ↦ λ _. refl | Other ↦ no ]
 
 pub first_other : (c : Class) → symbol_first c ≡ true → c ≡ Other
 first_other c =
-    elim c [ Space ↦ no | LineEnd ↦ no | Semicolon ↦ no | LParen ↦ no | RParen ↦ no | AtSign ↦ no | FormFeed ↦ no | Minus ↦ no | Digit ↦ no | Other ↦ λ _. refl ]
+    elim c as (λ k. symbol_first k ≡ true → k ≡ Other) [ Space ↦ no | LineEnd ↦ no | Semicolon ↦ no | LParen ↦ no | RParen ↦ no | AtSign ↦ no | FormFeed ↦ no | Minus ↦ no | Digit ↦ no | Other ↦ λ _. refl ]
 
 -- a byte above `@` begins a symbol, by one computed test over every byte
 high_first : (b : ℕ) → b < 256 → (not (high b) || symbol_first (class_of b)) ≡ true

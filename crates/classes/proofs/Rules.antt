@@ -76,7 +76,7 @@ pub record Rules (b : ℕ) : Type 0 where
 named_numbered : (c : Class) → named (numbered c) ≡ c
 unfolding named
 named_numbered c =
-    elim c [ Space ↦ refl | LineEnd ↦ refl | Semicolon ↦ refl | LParen ↦ refl | RParen ↦ refl | AtSign ↦ refl | FormFeed ↦ refl | Minus ↦ refl | Digit ↦ refl | Other ↦ refl ]
+    elim c as (λ k. named (numbered k) ≡ k) [ Space ↦ refl | LineEnd ↦ refl | Semicolon ↦ refl | LParen ↦ refl | RParen ↦ refl | AtSign ↦ refl | FormFeed ↦ refl | Minus ↦ refl | Digit ↦ refl | Other ↦ refl ]
 
 pub rules_of : (b : ℕ) → b < 256 → Rules b
 rules_of b h =

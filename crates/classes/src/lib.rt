@@ -1,5 +1,6 @@
 // What a byte is: a table of the class of every byte, and the tests that loops over runs of bytes ask. One computed test over all 256 bytes proves them all.
 #![tactic(auto)]
+
 mod numbers;
 pub mod runs;
 
