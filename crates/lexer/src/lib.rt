@@ -1,5 +1,6 @@
 // The uncut lexer, a port of the crate's `Lexer::next_token`: skip blanks and comments, then one token.
 #![tactic(auto)]
+
 pub mod literal;
 
 ghost use Rattle.std.specs.Prelude.{◌≡◌, true, false, ◌+◌, ◌-◌, ◌≤◌, ◌<◌, length, drop};
