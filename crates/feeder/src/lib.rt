@@ -1,5 +1,6 @@
 // Feeding in pieces: a state and a piece give a token, "more" or a refusal, the bytes consumed, and the new state.
 #![tactic(auto)]
+
 mod comments;
 mod glance;
 mod literals;
