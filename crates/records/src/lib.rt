@@ -1,5 +1,6 @@
 // The format of records: the length of the whole record in 4 bytes, its kind in 2, its payload, all little-endian. Tables and whatever else is kept in records go through here.
 #![tactic(auto)]
+
 ghost use Rattle.std.specs.Prelude.{◌≡◌, ◌++◌, ◌+◌};
 ghost use Rattle.lists.specs.Over.{fitted};
 ghost use Rattle.wide.specs.Bytes.{le, number_in};
