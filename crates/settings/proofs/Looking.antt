@@ -1,24 +1,20 @@
 -- What was found in one file, and in two: the settings behind it, the value's bytes in its file, and the copy that is made there. Assumes nothing.
 use Prim.Native.Nat.{ℕ, ◌+◌, ◌-◌, ◌≤◌}
 use mathlib.Core.Path.{◌≡◌, refl, sym, ap, subst, ◌∙◌}
-use mathlib.Core.Logic.{◌⊎◌, inl, inr}
-use mathlib.Core.Bool.{Bool, true, false, cond}
-use mathlib.Core.List.{List, [], ◌∷◌, ◌++◌, append-nil}
+use mathlib.Core.Bool.{true}
+use mathlib.Core.List.{List, [], ◌++◌, append-nil}
 use native.Mathlib.Omega.{arith}
-use lib.Dec.{eqb, leb}
 use lib.ListN.{length, take, drop}
 use lib.Seq.{take-length, drop-length}
-use borrow.Author.Tests.{eqb-true}
-use Rattle.refusals.specs.Numbers.{settings_limit, not_set, bad_style_name}
-use Rattle.refusals.specs.Result.{Result, ok, refused, and_then}
-use Rattle.records.specs.Records.{head_len, record_of}
-use Rattle.wide.specs.Bytes.{Bytes, number}
+use Rattle.refusals.specs.Numbers.{settings_limit, not_set}
+use Rattle.refusals.specs.Result.{Result, ok, refused}
+use Rattle.records.specs.Records.{head_len}
+use Rattle.wide.specs.Bytes.{Bytes}
 use Rattle.settings.specs.Kinds.{value_fits}
 use Rattle.settings.specs.Files.{Setting, setting_is, bytes_of, file_of, settings_of, GoodFile}
-use Rattle.settings.specs.LookUps.{Side, Project, House, Neither, Value, Held, absent, held, held_from, Sided, given, faulty, each_sided, checked, chosen, look_up, Span, span_in, number_set, bytes_in, part_of}
-use Rattle.settings.specs.Writing.{replaced, roomed, copy_of}
+use Rattle.settings.specs.LookUps.{Project, House, Neither, Value, Held, absent, held, held_from, given, faulty, look_up}
+use Rattle.settings.specs.Writing.{replaced, copy_of}
 use Rattle.settings.specs.PrivateFinding.{found_at, found_in, splice_of}
-use Rattle.settings.specs.declared.Part.{Part}
 use Rattle.settings.specs.declared.finding.Found.{Found}
 use Rattle.settings.specs.declared.finding.Found.TheVariants as found
 use Rattle.settings.proofs.Standing.{held_in, held_fits, spliced, appended}

@@ -1,13 +1,13 @@
 -- The walk over a file that looks for a kind: what is left of the file to read decides the answer. Assumes nothing.
-use Prim.Native.Nat.{ℕ, zero, suc, ◌+◌, ◌-◌, ◌*◌, ◌/◌, ◌%◌, ◌^◌, ◌≤◌, ◌<◌}
-use mathlib.Core.Path.{◌≡◌, refl, sym, ap, subst, ◌∙◌}
+use Prim.Native.Nat.{ℕ, zero, suc, ◌+◌, ◌-◌, ◌/◌, ◌%◌, ◌^◌, ◌≤◌, ◌<◌}
+use mathlib.Core.Path.{◌≡◌, refl, sym, ap, ◌∙◌}
 use mathlib.Core.Bool.{Bool, true, false, cond, ◌&&◌}
 use mathlib.Core.List.{List, [], ◌∷◌}
 use native.Mathlib.Nat.{zero-div}
 use native.Mathlib.Omega.{arith}
-use lib.Dec.{eqb, ltb}
+use lib.Dec.{eqb}
 use lib.ListN.{length, get_or, replicate, length-replicate}
-use borrow.Author.Tests.{lt-ltb, le-ltb, eqb-true, ne_eqb, eq-eqb}
+use borrow.Author.Tests.{lt-ltb, le-ltb, ne_eqb}
 use Rattle.refusals.specs.Numbers.{settings_limit, too_long}
 use Rattle.refusals.specs.Result.{Result, ok, refused, and_then}
 use Rattle.records.specs.Records.{head_len, payload, head_at}
@@ -17,7 +17,7 @@ use Rattle.lists.proofs.Choice.{and_left, and_right, true_false}
 use Rattle.settings.specs.Kinds.{value_fits}
 use Rattle.settings.specs.Files.{Setting, setting_is, bytes_of, among, of_head, settings_at, settings_of, is_edition}
 use Rattle.settings.specs.LookUps.{Held, held_from}
-use Rattle.settings.specs.PrivateFinding.{found_at, found_from, found_in, bad_at, bit, slot, Marked, told, Tells}
+use Rattle.settings.specs.PrivateFinding.{found_at, found_from, found_in, bad_at, slot, Tells}
 use Rattle.settings.proofs.Standing.{read_length, value_length}
 use Rattle.settings.specs.declared.finding.Found.{Found}
 use Rattle.settings.specs.declared.finding.Found.TheVariants as found

@@ -1,11 +1,11 @@
 -- How the code finds a setting in one walk: what it answers, and the kinds that it has seen, as bits in words. Nothing here is promised to callers.
-use Rattle.std.specs.Prelude.{ℕ, zero, ◌+◌, ◌-◌, ◌*◌, ◌/◌, ◌%◌, ◌^◌, ◌≤◌, ◌<◌, ◌≡◌, ◌⊎◌, Bool, true, false, cond, ◌&&◌, ◌||◌, List, ◌++◌, eqb, ltb, leb, length, get_or, take, drop}
+use Rattle.std.specs.Prelude.{ℕ, ◌-◌, ◌/◌, ◌%◌, ◌^◌, ◌≤◌, ◌<◌, ◌≡◌, ◌⊎◌, Bool, true, false, cond, List, ◌++◌, eqb, ltb, length, get_or, take, drop}
 use Rattle.refusals.specs.Numbers.{bad_settings, bad_style_name}
 use Rattle.refusals.specs.Result.{Result, ok, refused}
-use Rattle.records.specs.Records.{head_len, record_of}
+use Rattle.records.specs.Records.{record_of}
 use Rattle.settings.specs.Kinds.{first_skipped, value_fits}
 use Rattle.settings.specs.Files.{Setting, among}
-use Rattle.settings.specs.LookUps.{Held, absent, held, held_from, Value}
+use Rattle.settings.specs.LookUps.{Held, absent, held, held_from}
 use Rattle.settings.specs.Writing.{roomed}
 use Rattle.settings.specs.declared.finding.Found.{Found}
 use Rattle.settings.specs.declared.finding.Found.TheVariants as found

@@ -1,5 +1,6 @@
 // Settings per project: a project's file with the house file behind it. Both are checked whole at each look-up; writing makes a copy with one record replaced or added.
 #![tactic(auto)]
+
 mod finding;
 mod seen;
 mod splicing;
