@@ -1,6 +1,6 @@
 -- The walk that checks a tree and adds up what it costs: a record, the items of a list one by one, and trees up to the table's end. A walk that tells more
 -- cites `Walk` in the loop over a list, and `Checks` in the loop over a table. Assumes nothing but, in `list_few`, that the table's elements are bytes.
-use mathlib.Core.Path.{◌≡◌, refl, ap, sym, subst, subst⁻¹, ◌∙◌}
+use mathlib.Core.Path.{◌≡◌, refl, ap, sym, subst⁻¹, ◌∙◌}
 use mathlib.Core.Bool.{Bool, true, false}
 use mathlib.Core.List.{List}
 use Prim.Native.Nat.{ℕ, ◌+◌, ◌*◌, ◌-◌, ◌≤◌, ◌<◌}

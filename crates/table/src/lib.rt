@@ -1,5 +1,6 @@
 // The node table: its records, and the check of a whole table.
 #![tactic(auto)]
+
 pub mod walk;
 
 ghost use Rattle.std.specs.Prelude.{◌≡◌, ◌+◌, ◌≤◌, length};
