@@ -27,7 +27,7 @@ use Rattle.reader.specs.Grammar.{name_of, after, One, Many, up_to, to_end, onwar
 use Rattle.reader.specs.Promised.{ReadGood}
 use Rattle.reader.specs.PrivateWalk.{Lexes}
 use Rattle.reader.proofs.Derivation.{Derives, DerivesAll, ManyIs, items_is}
-use Rattle.reader.proofs.Bounds.{place, spans, spans_all, next_of, past_top, place_top, name_length}
+use Rattle.reader.proofs.Bounds.{spans, spans_all, next_of, past_top, place_top, name_length}
 use Rattle.reader.proofs.Begins.{read_refused}
 use Rattle.reader.proofs.WholeFiles.{file_by}
 

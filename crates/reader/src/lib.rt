@@ -1,5 +1,6 @@
 // The reader: the trees of a source, as a node table, or the first refusal. One walk over a room that may be too short: first over none, to measure and refuse, then over the room lent.
 #![tactic(auto)]
+
 mod parts;
 mod put;
 
