@@ -7,12 +7,7 @@ use Rattle.refusals.specs.Result.{Result}
 use Rattle.settings.specs.Files.{setting_is}
 use Rattle.settings.specs.Writing.{copy_of, sized, laid}
 use Rattle.settings.proofs.Joining.{width_value}
-use mathlib.Core.Path.{refl}
-use mathlib.Core.Logic.{inl}
 use Rattle.settings.proofs.write_width.Goals as goal
-
-pub write-requires : goal.write-requires
-write-requires c = inl refl
 
 pub returns : goal.returns
 returns c =

@@ -28,9 +28,6 @@ overflow_sub-n c = (read_head _ _ _ _ c.head_at.ensures c.in-Is.is).2
 pub returns-then-not-value_fits : goal.returns-then-not-value_fits
 returns-then-not-value_fits c = of_found _ _ _ c.if-f-gt-SETTINGS_LIMIT.false (sym c.edition_first.ensures ∙ c.if-not-edition_first.false) (c.bad-then-not-value_fits.ensures ∙ unfit c.loop-at.invariant c.loop-at-test.true _ _ (sym c.head_at.ensures ∙ c.in-Is.is) (sym c.value_fits.ensures ∙ c.if-not-value_fits.true))
 
-pub slice_bounds-mark-end : goal.slice_bounds-mark-end
-slice_bounds-mark-end c = sym c.loop-at.invariant.words_length
-
 pub mark-requires : goal.mark-requires
 mark-requires c =
     let h = read_head _ _ _ _ c.head_at.ensures c.in-Is.is in
@@ -40,9 +37,6 @@ mark-requires c =
 
 pub returns-then-mark : goal.returns-then-mark
 returns-then-mark c = of_found _ _ _ c.if-f-gt-SETTINGS_LIMIT.false (sym c.edition_first.ensures ∙ c.if-not-edition_first.false) (c.bad-then-mark.ensures ∙ twice c.loop-at.invariant c.loop-at-test.true _ _ (sym c.head_at.ensures ∙ c.in-Is.is) (sym c.value_fits.ensures ∙ c.if-not-value_fits.false) (sym (c.mark.ensures c.loop-at.invariant.before c.loop-at.invariant.tells).0 ∙ c.if-mark.true))
-
-pub overflow_add-place : goal.overflow_add-place
-overflow_add-place c = let h = read_head _ _ _ _ c.head_at.ensures c.in-Is.is in record { fits = omega (arith, h.2, h.3, c.loop-at-test.true, c.if-f-gt-SETTINGS_LIMIT.false) }
 
 pub overflow_add-at : goal.overflow_add-at
 overflow_add-at c = let h = read_head _ _ _ _ c.head_at.ensures c.in-Is.is in record { fits = omega (arith, h.2, h.3, c.loop-at-test.true, c.if-f-gt-SETTINGS_LIMIT.false) }
