@@ -1,65 +1,68 @@
 // The program of document 01: reads rules from standard input and writes them laid out at width 100, or the refusal.
 #![tactic(auto)]
+
 use printer::Printed;
 use reader::Readout;
 use refusals::Refusal;
+use std::io;
+use std::io::{Read, Write};
 
 // The bytes of the longest input, and of the rooms for the table and for the text.
 const ROOM: usize = 65536;
 
 const WIDTH: u32 = 100;
 
-fn show_refusal(r: Refusal) {
-    io::write_all(1, b"refusal ");
-    io::print_decimal(1, r.number as u64);
-    io::write_all(1, b" at ");
-    io::print_decimal(1, r.place as u64);
-    io::write_all(1, b"\n");
+fn show_refusal(to: &mut impl Write, r: Refusal) -> io::Result<()> {
+    writeln!(to, "refusal {} at {}", r.number, r.place)
 }
 
-fn print(table: &[u8], out: &mut [u8]) {
+fn print(to: &mut impl Write, table: &[u8], out: &mut [u8]) -> io::Result<()> {
     match printer::print(table, WIDTH, out) {
         Printed::Text(n, _) => {
-            if n <= ROOM {
-                let k = io::count(n as isize, out);
-                io::write_all(1, &out[..k]);
+            if n <= out.len() {
+                to.write_all(&out[..n])?;
             }
+            Ok(())
         }
-        Printed::Refused(r) => show_refusal(r),
+        Printed::Refused(r) => show_refusal(to, r),
     }
 }
 
-fn rewrite(src: &[u8], table: &mut [u8], out: &mut [u8]) {
+fn rewrite(to: &mut impl Write, src: &[u8], table: &mut [u8], out: &mut [u8]) -> io::Result<()> {
     match reader::read(src, table) {
         Readout::Table(n) => {
-            if n <= ROOM {
-                let k = io::count(n as isize, table);
-                print(&table[..k], out);
+            if n <= table.len() {
+                print(to, &table[..n], out)?;
             }
+            Ok(())
         }
-        Readout::Refused(r) => show_refusal(r),
+        Readout::Refused(r) => show_refusal(to, r),
     }
 }
 
 // Whether the input goes on past a full room.
-fn goes_on() -> bool {
+fn goes_on(from: &mut impl Read) -> io::Result<bool> {
     let mut next = [0u8; 1];
-    0 < io::read_full(0, &mut next)
+    Ok(0 < from.read(&mut next)?)
 }
 
-fn main() {
-    let mut src = io::large_buffer();
-    let n = io::read_full(0, &mut src);
-    if ROOM <= n {
-        if goes_on() {
-            show_refusal(Refusal {
-                number: refusals::TOO_LONG,
-                place: ROOM,
-            });
-            return;
+fn main(rt: HostRuntime) -> io::Result<()> {
+    let mut from = rt.stdin();
+    let mut to = rt.stdout();
+    let mut src = Vec::new(rt.alloc());
+    from.by_ref().take(ROOM as u64).read_to_end(&mut src)?;
+    if ROOM <= src.len() {
+        if goes_on(&mut from)? {
+            return show_refusal(
+                &mut to,
+                Refusal {
+                    number: refusals::TOO_LONG,
+                    place: ROOM,
+                },
+            );
         }
     }
-    let mut table = io::large_buffer();
-    let mut out = io::large_buffer();
-    rewrite(&src[..n], &mut table, &mut out);
+    let mut table = vec![in rt.alloc(); 0; ROOM]?;
+    let mut out = vec![in rt.alloc(); 0; ROOM]?;
+    rewrite(&mut to, &src, &mut table, &mut out)
 }

@@ -38,7 +38,7 @@ pub fn put_name(t: &[u8], at: usize, len: usize, out: &mut [u8]) -> usize
     if out.len() < n + 3 {
         return n + 3;
     }
-    bytes::copy(&t[start..end], out);
+    out[..n].copy_from_slice(&t[start..end]);
     out[n] = b' ';
     out[n + 1] = b'@';
     out[n + 2] = b' ';

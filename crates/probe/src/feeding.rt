@@ -1,4 +1,5 @@
 // The ops F, f, C and c: a source is cut into pieces, fed and closed, as a host would.
+use crate::lines::Page;
 use crate::{entrances, lines};
 use feeder::{Answer, Fed, State};
 
@@ -31,7 +32,7 @@ enum After {
     Done,
 }
 
-fn answer_line(page: &mut [u8; 65536], n: usize, a: Answer) -> usize {
+fn answer_line(page: &mut Page, n: usize, a: Answer) -> usize {
     match a {
         Answer::More => lines::bytes(page, n, b"more\n"),
         Answer::End => lines::bytes(page, n, b"end\n"),
@@ -40,14 +41,14 @@ fn answer_line(page: &mut [u8; 65536], n: usize, a: Answer) -> usize {
     }
 }
 
-fn fed_line(page: &mut [u8; 65536], n: usize, used: usize, a: Answer) -> usize {
+fn fed_line(page: &mut Page, n: usize, used: usize, a: Answer) -> usize {
     let m = lines::bytes(page, n, b"feed ");
     let m = lines::number(page, m, used);
     let m = lines::byte(page, m, b' ');
     answer_line(page, m, a)
 }
 
-fn token_line(page: &mut [u8; 65536], n: usize, a: Answer) -> usize {
+fn token_line(page: &mut Page, n: usize, a: Answer) -> usize {
     match a {
         Answer::More => n,
         Answer::End => answer_line(page, n, a),
@@ -56,14 +57,14 @@ fn token_line(page: &mut [u8; 65536], n: usize, a: Answer) -> usize {
     }
 }
 
-fn show_feed(page: &mut [u8; 65536], n: usize, style: Style, used: usize, a: Answer) -> usize {
+fn show_feed(page: &mut Page, n: usize, style: Style, used: usize, a: Answer) -> usize {
     if style.calls {
         return fed_line(page, n, used, a);
     }
     token_line(page, n, a)
 }
 
-fn show_close(page: &mut [u8; 65536], n: usize, style: Style, a: Answer) -> usize {
+fn show_close(page: &mut Page, n: usize, style: Style, a: Answer) -> usize {
     if style.calls {
         let m = lines::bytes(page, n, b"close ");
         return answer_line(page, m, a);
@@ -126,7 +127,7 @@ fn rest(state: State, at: usize, end: usize, n: usize, len: usize, later: usize)
     next_piece(state, end, n, len, later)
 }
 
-fn feed_turn(page: &mut [u8; 65536], style: Style, src: &[u8], later: usize, d: Drive) -> Drive {
+fn feed_turn(page: &mut Page, style: Style, src: &[u8], later: usize, d: Drive) -> Drive {
     let end = d.end;
     let f = feed_part(style.lent, d.state, src, d.at, end);
     let state = f.state;
@@ -148,7 +149,7 @@ fn feed_turn(page: &mut [u8; 65536], style: Style, src: &[u8], later: usize, d: 
     }
 }
 
-fn close_turn(page: &mut [u8; 65536], style: Style, d: Drive) -> Drive {
+fn close_turn(page: &mut Page, style: Style, d: Drive) -> Drive {
     let f = entrances::close(style.lent, d.state);
     let state = f.state;
     let out = f.out;
@@ -170,7 +171,7 @@ fn close_turn(page: &mut [u8; 65536], style: Style, d: Drive) -> Drive {
 }
 
 // The lent state is fed a byte where the one by value is fed nothing, so that both are tried.
-fn feed_extra(page: &mut [u8; 65536], style: Style, d: Drive) -> Drive {
+fn feed_extra(page: &mut Page, style: Style, d: Drive) -> Drive {
     let f = if style.lent {
         entrances::feed(true, d.state, b"x")
     } else {
@@ -189,7 +190,7 @@ fn feed_extra(page: &mut [u8; 65536], style: Style, d: Drive) -> Drive {
     }
 }
 
-fn first_close(page: &mut [u8; 65536], style: Style, d: Drive) -> Drive {
+fn first_close(page: &mut Page, style: Style, d: Drive) -> Drive {
     let e = close_turn(page, style, d);
     if is_done(e) {
         return e;
@@ -200,7 +201,7 @@ fn first_close(page: &mut [u8; 65536], style: Style, d: Drive) -> Drive {
     e
 }
 
-fn turn(page: &mut [u8; 65536], style: Style, src: &[u8], later: usize, d: Drive) -> Drive {
+fn turn(page: &mut Page, style: Style, src: &[u8], later: usize, d: Drive) -> Drive {
     let after = d.after;
     match after {
         After::Feed => feed_turn(page, style, src, later, d),
@@ -220,15 +221,13 @@ fn is_done(d: Drive) -> bool {
     }
 }
 
-fn driven(page: &mut [u8; 65536], style: Style, src: &[u8], later: usize, d: Drive) -> Drive {
+fn driven(page: &mut Page, style: Style, src: &[u8], later: usize, d: Drive) -> Drive {
     let mut e = d;
-    let mut left = TURNS;
-    while 0 < left {
+    for _ in 0..TURNS {
         e = turn(page, style, src, later, e);
         if is_done(e) {
             return e;
         }
-        left -= 1;
     }
     e
 }
@@ -245,7 +244,7 @@ fn start(n: usize, first: usize, len: usize) -> Drive {
 
 // All pieces, the first of `first` bytes, each later one of `later`; then the close.
 pub fn pieces(
-    page: &mut [u8; 65536],
+    page: &mut Page,
     n: usize,
     style: Style,
     src: &[u8],

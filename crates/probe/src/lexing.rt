@@ -1,5 +1,6 @@
 // The op L: all tokens of a source from a place on.
 use crate::lines;
+use crate::lines::Page;
 use lexer::{Lexed, Token};
 
 // More tokens than a source can have.
@@ -23,7 +24,7 @@ fn length_of(t: Token) -> usize {
     }
 }
 
-fn turn(page: &mut [u8; 65536], src: &[u8], at: usize, n: usize) -> After {
+fn turn(page: &mut Page, src: &[u8], at: usize, n: usize) -> After {
     match lexer::next_token(src, at) {
         Lexed::Token(t, start) => After {
             at: std::num::wrapping_add_usize(start, length_of(t)),
@@ -43,18 +44,16 @@ fn turn(page: &mut [u8; 65536], src: &[u8], at: usize, n: usize) -> After {
     }
 }
 
-pub fn tokens(page: &mut [u8; 65536], n: usize, src: &[u8], from: usize) -> usize {
+pub fn tokens(page: &mut Page, n: usize, src: &[u8], from: usize) -> usize {
     let mut at = from;
     let mut m = n;
-    let mut left = TURNS;
-    while 0 < left {
+    for _ in 0..TURNS {
         let t = turn(page, src, at, m);
         at = t.at;
         m = t.n;
         if !t.more {
             return m;
         }
-        left -= 1;
     }
     m
 }

@@ -3,6 +3,7 @@
 // A frame that the input's end cuts, or that does not fit the source's room, ends the run.
 // The files stdin and stdout beside src/ are `oracle sample --cases 400 stdin stdout`: fixed cases with the Rust's and the documents' answers.
 #![tactic(auto)]
+
 mod entrances;
 mod feeding;
 mod lexing;
@@ -13,6 +14,9 @@ mod tables;
 mod windowed;
 
 use feeding::Style;
+use lines::Page;
+use std::io;
+use std::io::{ErrorKind, Read, Stdout};
 use windowed::Job;
 
 // More frames than any input has.
@@ -40,29 +44,42 @@ struct After {
 }
 
 // Reads a frame's bytes to the front of the source's room; false if they do not fit or the input ends.
-fn filled(room: &mut [u8], len: usize) -> bool {
+fn filled(from: &mut impl Read, room: &mut [u8], len: usize) -> io::Result<bool> {
     let k = lines::within(len, room);
     if k < len {
-        return false;
+        return Ok(false);
     }
-    len <= io::read_full(0, &mut room[..k])
+    read_full(from, &mut room[..k])
 }
 
-fn next_frame(room: &mut [u8]) -> Next {
+// Fills the buffer; false if the input ends before.
+fn read_full(from: &mut impl Read, buf: &mut [u8]) -> io::Result<bool> {
+    match from.read_exact(buf) {
+        Ok(()) => Ok(true),
+        Err(e) => {
+            if e.kind() == ErrorKind::UnexpectedEof {
+                return Ok(false);
+            }
+            Err(e)
+        }
+    }
+}
+
+fn next_frame(from: &mut impl Read, room: &mut [u8]) -> io::Result<Next> {
     let mut head = [0u8; 13];
-    if io::read_full(0, &mut head) < 13 {
-        return Next::Nothing;
+    if !read_full(from, &mut head)? {
+        return Ok(Next::Nothing);
     }
     let len = wide::u32_at(&head, 9);
-    if filled(room, len) {
-        return Next::Is(Frame {
+    if filled(from, room, len)? {
+        return Ok(Next::Is(Frame {
             op: head[0],
             a: wide::u32_at(&head, 1),
             b: wide::u32_at(&head, 5),
             len,
-        });
+        }));
     }
-    Next::Nothing
+    Ok(Next::Nothing)
 }
 
 fn style(op: u8) -> Style {
@@ -83,7 +100,7 @@ fn job(f: Frame) -> Job {
 }
 
 fn answer(
-    page: &mut [u8; 65536],
+    page: &mut Page,
     n: usize,
     f: Frame,
     src: &[u8],
@@ -109,44 +126,53 @@ fn answer(
 
 // One frame and its answer.
 fn turn(
-    page: &mut [u8; 65536],
+    from: &mut impl Read,
+    page: &mut Page,
     n: usize,
     room: &mut [u8],
     table: &mut [u8],
     text: &mut [u8],
-) -> After {
-    match next_frame(room) {
+) -> io::Result<After> {
+    match next_frame(from, room)? {
         Next::Is(f) => {
             let len = lines::within(f.len, room);
             let m = answer(page, n, f, &room[..len], table, text);
-            After {
-                n: lines::bytes(page, m, b".\n"),
-                more: true,
-            }
+            let n = lines::bytes(page, m, b".\n");
+            lines::outcome(page)?;
+            Ok(After { n, more: true })
         }
-        Next::Nothing => After { n, more: false },
+        Next::Nothing => Ok(After { n, more: false }),
     }
 }
 
-fn serve(src: &mut [u8], table: &mut [u8], text: &mut [u8]) {
-    let mut page = io::large_buffer();
+fn serve(
+    from: &mut impl Read,
+    to: Stdout,
+    src: &mut [u8],
+    table: &mut [u8],
+    text: &mut [u8],
+) -> io::Result<()> {
+    let mut page = lines::blank(to);
     let mut n = 0;
-    let mut left = FRAMES;
-    while 0 < left {
-        let t = turn(&mut page, n, src, table, text);
+    for _ in 0..FRAMES {
+        let t = turn(from, &mut page, n, src, table, text)?;
         n = t.n;
-        if t.more {
-            left -= 1;
-        } else {
-            left = 0;
+        if !t.more {
+            break;
         }
     }
-    lines::flush(&page, n);
+    lines::flush(&mut page, n)
 }
 
-fn main() {
-    let mut src = rooms::source();
-    let mut table = rooms::table();
-    let mut text = rooms::text();
-    serve(&mut src, &mut table, &mut text);
+fn main(rt: HostRuntime) -> io::Result<()> {
+    let mut src = rooms::source(rt.alloc())?;
+    let mut table = rooms::table(rt.alloc())?;
+    let mut text = rooms::text(rt.alloc())?;
+    serve(
+        &mut rt.stdin(),
+        rt.stdout(),
+        &mut src,
+        &mut table,
+        &mut text,
+    )
 }

@@ -1,10 +1,11 @@
 // The ops S, T and t: a setting is looked up in a project's file with the house file behind it, and a file copied with a width or a style name written.
 // Of bytes that are cut short, a file or a name is what is there of it.
+use crate::lines::Page;
 use crate::{lines, tables};
 use refusals::Refusal;
 use settings::{Number, Part, Side, Written};
 
-fn side(page: &mut [u8; 65536], n: usize, side: Side) -> usize {
+fn side(page: &mut Page, n: usize, side: Side) -> usize {
     match side {
         Side::Project => lines::bytes(page, n, b"Project"),
         Side::House => lines::bytes(page, n, b"House"),
@@ -13,14 +14,14 @@ fn side(page: &mut [u8; 65536], n: usize, side: Side) -> usize {
 }
 
 // A refusal, and whose file is at fault.
-fn refused(page: &mut [u8; 65536], n: usize, whose: Side, r: Refusal) -> usize {
+fn refused(page: &mut Page, n: usize, whose: Side, r: Refusal) -> usize {
     let m = lines::refusal_words(page, n, r);
     let m = lines::byte(page, m, b' ');
     let m = side(page, m, whose);
     lines::line_end(page, m)
 }
 
-fn width(page: &mut [u8; 65536], n: usize, project: &[u8], house: &[u8]) -> usize {
+fn width(page: &mut Page, n: usize, project: &[u8], house: &[u8]) -> usize {
     match settings::width(project, house) {
         Number::Is(_, x) => {
             let m = lines::bytes(page, n, b"width ");
@@ -32,7 +33,7 @@ fn width(page: &mut [u8; 65536], n: usize, project: &[u8], house: &[u8]) -> usiz
 }
 
 // Both files for one time, since the name is a part of either.
-fn style<'a>(page: &mut [u8; 65536], n: usize, project: &'a [u8], house: &'a [u8]) -> usize {
+fn style<'a>(page: &mut Page, n: usize, project: &'a [u8], house: &'a [u8]) -> usize {
     match settings::style(project, house) {
         Part::Of(_, _, _) => {
             tables::shown(page, n, b"style ", settings::style_name(project, house))
@@ -41,7 +42,7 @@ fn style<'a>(page: &mut [u8; 65536], n: usize, project: &'a [u8], house: &'a [u8
     }
 }
 
-fn part(page: &mut [u8; 65536], n: usize, project: &[u8], house: &[u8]) -> usize {
+fn part(page: &mut Page, n: usize, project: &[u8], house: &[u8]) -> usize {
     match settings::style(project, house) {
         Part::Of(whose, place, len) => {
             let m = lines::bytes(page, n, b"part ");
@@ -57,7 +58,7 @@ fn part(page: &mut [u8; 65536], n: usize, project: &[u8], house: &[u8]) -> usize
 }
 
 // The width, the style name, or, for any other number, where that stands.
-pub fn look_up(page: &mut [u8; 65536], n: usize, asked: usize, src: &[u8], len: usize) -> usize {
+pub fn look_up(page: &mut Page, n: usize, asked: usize, src: &[u8], len: usize) -> usize {
     let k = lines::within(len, src);
     let project = &src[..k];
     let house = &src[k..];
@@ -68,7 +69,7 @@ pub fn look_up(page: &mut [u8; 65536], n: usize, asked: usize, src: &[u8], len: 
     }
 }
 
-fn copied(page: &mut [u8; 65536], n: usize, w: Written, room: &[u8]) -> usize {
+fn copied(page: &mut Page, n: usize, w: Written, room: &[u8]) -> usize {
     match w {
         Written::Copy(len) => tables::written(page, n, b"file ", room, len),
         Written::Refused(r) => {
@@ -78,20 +79,14 @@ fn copied(page: &mut [u8; 65536], n: usize, w: Written, room: &[u8]) -> usize {
     }
 }
 
-fn width_into(
-    page: &mut [u8; 65536],
-    n: usize,
-    file: &[u8],
-    width: usize,
-    room: &mut [u8],
-) -> usize {
+fn width_into(page: &mut Page, n: usize, file: &[u8], width: usize, room: &mut [u8]) -> usize {
     tables::mark(room);
     let w = settings::write_width(file, tables::width_of(width), room);
     copied(page, n, w, room)
 }
 
 pub fn write_width(
-    page: &mut [u8; 65536],
+    page: &mut Page,
     n: usize,
     file: &[u8],
     width: usize,
@@ -102,13 +97,7 @@ pub fn write_width(
     width_into(page, n, file, width, &mut room[..k])
 }
 
-fn style_into(
-    page: &mut [u8; 65536],
-    n: usize,
-    file: &[u8],
-    name: &[u8],
-    room: &mut [u8],
-) -> usize {
+fn style_into(page: &mut Page, n: usize, file: &[u8], name: &[u8], room: &mut [u8]) -> usize {
     tables::mark(room);
     let w = settings::write_style(file, name, room);
     copied(page, n, w, room)
@@ -116,7 +105,7 @@ fn style_into(
 
 // The name stands before the file.
 pub fn write_style(
-    page: &mut [u8; 65536],
+    page: &mut Page,
     n: usize,
     src: &[u8],
     len: usize,

@@ -1,5 +1,6 @@
 // The ops R, P, Q, W and K: a source is read into a room, a table printed into one, both in turn, and a table checked.
 use crate::lines;
+use crate::lines::Page;
 use printer::Printed;
 use reader::Readout;
 use table::Checked;
@@ -8,25 +9,21 @@ use table::Checked;
 const MARK: u8 = 0xA5;
 
 pub fn mark(room: &mut [u8]) {
-    let mut i = 0;
-    while i < room.len() {
-        room[i] = MARK;
-        i += 1;
+    for b in room.iter_mut() {
+        *b = MARK;
     }
 }
 
 // Without an early end, so that the loop goes many bytes at a time.
 pub fn is_marked(rest: &[u8]) -> bool {
     let mut other: u8 = 0;
-    let mut i = 0;
-    while i < rest.len() {
-        other |= rest[i] ^ MARK;
-        i += 1;
+    for b in rest {
+        other |= *b ^ MARK;
     }
     other == 0
 }
 
-pub fn kept(page: &mut [u8; 65536], n: usize, marked: bool) -> usize {
+pub fn kept(page: &mut Page, n: usize, marked: bool) -> usize {
     if marked {
         return lines::bytes(page, n, b"kept\n");
     }
@@ -43,19 +40,16 @@ fn glyph(half: u8) -> u8 {
     b'?'
 }
 
-fn hex(page: &mut [u8; 65536], n: usize, s: &[u8]) -> usize {
+fn hex(page: &mut Page, n: usize, s: &[u8]) -> usize {
     let mut m = n;
-    let mut i = 0;
-    while i < s.len() {
-        let b = s[i];
-        m = lines::byte(page, m, glyph(b / 16));
-        m = lines::byte(page, m, glyph(b % 16));
-        i += 1;
+    for b in s {
+        m = lines::byte(page, m, glyph(*b / 16));
+        m = lines::byte(page, m, glyph(*b % 16));
     }
     m
 }
 
-pub fn shown(page: &mut [u8; 65536], n: usize, word: &[u8], s: &[u8]) -> usize {
+pub fn shown(page: &mut Page, n: usize, word: &[u8], s: &[u8]) -> usize {
     let m = lines::bytes(page, n, word);
     let m = lines::number(page, m, s.len());
     let m = lines::line_end(page, m);
@@ -64,20 +58,20 @@ pub fn shown(page: &mut [u8; 65536], n: usize, word: &[u8], s: &[u8]) -> usize {
 }
 
 // The records that the fits test looked at.
-pub fn looked(page: &mut [u8; 65536], n: usize, count: usize) -> usize {
+pub fn looked(page: &mut Page, n: usize, count: usize) -> usize {
     let m = lines::bytes(page, n, b"looked ");
     let m = lines::number(page, m, count);
     lines::line_end(page, m)
 }
 
 // The front of a room was written, and its rest was not to be touched.
-pub fn written(page: &mut [u8; 65536], n: usize, word: &[u8], room: &[u8], len: usize) -> usize {
+pub fn written(page: &mut Page, n: usize, word: &[u8], room: &[u8], len: usize) -> usize {
     let k = lines::within(len, room);
     let m = shown(page, n, word, &room[..k]);
     kept(page, m, is_marked(&room[k..]))
 }
 
-fn read_into(page: &mut [u8; 65536], n: usize, src: &[u8], room: &mut [u8]) -> usize {
+fn read_into(page: &mut Page, n: usize, src: &[u8], room: &mut [u8]) -> usize {
     mark(room);
     match reader::read(src, room) {
         Readout::Table(len) => written(page, n, b"table ", room, len),
@@ -88,7 +82,7 @@ fn read_into(page: &mut [u8; 65536], n: usize, src: &[u8], room: &mut [u8]) -> u
     }
 }
 
-pub fn read(page: &mut [u8; 65536], n: usize, src: &[u8], room: &mut [u8], most: usize) -> usize {
+pub fn read(page: &mut Page, n: usize, src: &[u8], room: &mut [u8], most: usize) -> usize {
     let k = lines::within(most, room);
     read_into(page, n, src, &mut room[..k])
 }
@@ -102,7 +96,7 @@ pub fn width_of(a: usize) -> u32 {
 
 // A text in the front of a room; the count is shown where it is asked for.
 fn printed(
-    page: &mut [u8; 65536],
+    page: &mut Page,
     n: usize,
     counted: bool,
     room: &[u8],
@@ -119,7 +113,7 @@ fn printed(
 }
 
 fn print_into(
-    page: &mut [u8; 65536],
+    page: &mut Page,
     n: usize,
     counted: bool,
     table: &[u8],
@@ -137,7 +131,7 @@ fn print_into(
 }
 
 pub fn print(
-    page: &mut [u8; 65536],
+    page: &mut Page,
     n: usize,
     table: &[u8],
     width: usize,
@@ -150,7 +144,7 @@ pub fn print(
 
 // The first byte is the layout, and there is one; of no bytes the table is empty.
 pub fn print_counted(
-    page: &mut [u8; 65536],
+    page: &mut Page,
     n: usize,
     src: &[u8],
     width: usize,
@@ -162,13 +156,7 @@ pub fn print_counted(
     print_into(page, n, true, &src[t..], width, &mut room[..k])
 }
 
-fn print_whole(
-    page: &mut [u8; 65536],
-    n: usize,
-    table: &[u8],
-    width: usize,
-    room: &mut [u8],
-) -> usize {
+fn print_whole(page: &mut Page, n: usize, table: &[u8], width: usize, room: &mut [u8]) -> usize {
     match printer::print(table, width_of(width), room) {
         Printed::Text(len, _) => {
             let k = lines::within(len, room);
@@ -179,7 +167,7 @@ fn print_whole(
 }
 
 pub fn rewrite(
-    page: &mut [u8; 65536],
+    page: &mut Page,
     n: usize,
     src: &[u8],
     width: usize,
@@ -196,7 +184,7 @@ pub fn rewrite(
 }
 
 // The frame's numbers make no difference.
-pub fn check(page: &mut [u8; 65536], n: usize, t: &[u8]) -> usize {
+pub fn check(page: &mut Page, n: usize, t: &[u8]) -> usize {
     match table::check(t) {
         Checked::Good => lines::bytes(page, n, b"good\n"),
         Checked::Refused(r) => lines::refusal(page, n, r),

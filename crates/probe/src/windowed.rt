@@ -1,6 +1,7 @@
 // The ops V and v: a table is printed through windows, call after call from the state that the call before gave back; v changes the table and the width on the way.
 // The bytes of a frame: three numbers, the calls, how many of them are on the first table, and its length; then the windows' lengths and the two tables.
 // Of bytes that are cut short, the calls are those whose windows' lengths are there, and a table is what is there of it.
+use crate::lines::Page;
 use crate::{lines, tables};
 use windows::{Answer, Filled, State};
 
@@ -59,14 +60,14 @@ fn is_kept_around(room: &[u8], len: usize) -> bool {
     tables::is_marked(&room[..e]) & tables::is_marked(&rest[k..])
 }
 
-fn bytes_line(page: &mut [u8; 65536], n: usize, room: &[u8], len: usize) -> usize {
+fn bytes_line(page: &mut Page, n: usize, room: &[u8], len: usize) -> usize {
     let e = lines::within(EDGE, room);
     let rest = &room[e..];
     let k = lines::within(len, rest);
     tables::shown(page, n, b"window ", &rest[..k])
 }
 
-fn answer_lines(page: &mut [u8; 65536], n: usize, answer: Answer, room: &[u8]) -> usize {
+fn answer_lines(page: &mut Page, n: usize, answer: Answer, room: &[u8]) -> usize {
     match answer {
         Answer::Bytes(k) => {
             let m = bytes_line(page, n, room, k);
@@ -93,7 +94,7 @@ fn reported(answer: Answer) -> usize {
     }
 }
 
-fn inside_line(page: &mut [u8; 65536], n: usize, answer: Answer, room: &[u8], len: usize) -> usize {
+fn inside_line(page: &mut Page, n: usize, answer: Answer, room: &[u8], len: usize) -> usize {
     if is_kept_around(room, len) & (reported(answer) <= len) {
         return lines::bytes(page, n, b"inside\n");
     }
@@ -102,7 +103,7 @@ fn inside_line(page: &mut [u8; 65536], n: usize, answer: Answer, room: &[u8], le
 
 // A call with a window of `len` bytes in a room that has nothing but it and its edges.
 fn call(
-    page: &mut [u8; 65536],
+    page: &mut Page,
     n: usize,
     shown: bool,
     table: &[u8],
@@ -127,7 +128,7 @@ fn call(
 }
 
 fn call_in_room(
-    page: &mut [u8; 65536],
+    page: &mut Page,
     n: usize,
     shown: bool,
     table: &[u8],
@@ -151,7 +152,7 @@ fn call_in_room(
 
 // All calls on one table.
 fn calls(
-    page: &mut [u8; 65536],
+    page: &mut Page,
     from: After,
     shown: bool,
     table: &[u8],
@@ -160,18 +161,16 @@ fn calls(
     rooms: &mut [u8],
 ) -> After {
     let mut d = from;
-    let mut i = 0;
-    while i < lengths.len() / 4 {
+    for i in 0..lengths.len() / 4 {
         let state = d.state;
         let asked = wide::u32_at(lengths, 4 * i);
         d = call_in_room(page, d.n, shown, table, width, state, asked, rooms);
-        i += 1;
     }
     d
 }
 
 fn both(
-    page: &mut [u8; 65536],
+    page: &mut Page,
     n: usize,
     job: Job,
     early: &[u8],
@@ -200,7 +199,7 @@ fn numbers_len(count: usize, s: &[u8]) -> usize {
 
 // The lengths are parted where the second table begins, and the tables by the length of the first.
 fn parted(
-    page: &mut [u8; 65536],
+    page: &mut Page,
     n: usize,
     job: Job,
     lengths: &[u8],
@@ -223,7 +222,7 @@ fn parted(
     )
 }
 
-pub fn print(page: &mut [u8; 65536], n: usize, job: Job, src: &[u8], rooms: &mut [u8]) -> usize {
+pub fn print(page: &mut Page, n: usize, job: Job, src: &[u8], rooms: &mut [u8]) -> usize {
     let h = lines::within(HEAD, src);
     let rest = &src[h..];
     let k = lines::within(numbers_len(wide::u32_at(src, 0), rest), rest);
