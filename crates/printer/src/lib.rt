@@ -1,5 +1,6 @@
 // The layout of a table at a width, a port of the crate's `Printer`: checked and measured in one walk, then laid into the room lent.
 #![tactic(auto)]
+
 mod atoms;
 pub mod cost;
 mod flat;

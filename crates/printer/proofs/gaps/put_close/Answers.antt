@@ -1,0 +1,21 @@
+-- `printer::gaps::put_close`: one line for each kind of end.
+use mathlib.Core.List.{◌∷◌, []}
+use Rattle.printer.specs.Layout.{bytes, nl}
+use Rattle.lists.proofs.Rooms.{puts_both}
+use Rattle.printer.proofs.ShortRooms.{break_size}
+use Prim.Native.Nat.{◌*◌}
+use native.Mathlib.Omega.{arith}
+use Rattle.printer.proofs.gaps.put_close.Goals as goal
+
+pub returns-then-empty : goal.returns-then-empty
+returns-then-empty c = rw c.if-empty.true c.put_byte.ensures
+
+pub overflow_add-result : goal.overflow_add-result
+overflow_add-result c =
+    omega (arith, c.put_byte-k.ensures.0, c.nl-n.ensures.0, break_size (4 * c.args.indent))
+
+pub returns : goal.returns
+returns c =
+    let s = c.args in
+    rw c.if-empty.false
+    (puts_both (bytes (nl s.indent)) (41 ∷ []) s.out.now _ _ _ _ _ c.nl-n.ensures c.least-rest.ensures.1 c.put_byte-k.ensures)
