@@ -1,5 +1,6 @@
 // Every answer of the doors for C as eight words: kind; start or place; length or number; an integer's high and low 64 bits; bytes consumed; a count; whose file a setting is from (tulbazhik_settings), else 0.
 #![tactic(auto)]
+
 ghost use Rattle.std.specs.Prelude.{◌≡◌};
 ghost use Rattle.lexer.specs.Tokens.{token_of, answer_of};
 ghost use Rattle.feeder.specs.Feeding.{reply_of};
