@@ -1,5 +1,6 @@
-// The door for C to settings per project: the proved functions under C names, over slices and an answer of eight words (host/include/tulbazhik.h).
+// The door for C to settings per project: the proved functions over slices and an answer of eight words (host/include/tulbazhik.h). tulbazhik_settings_c exports them under their C names.
 #![tactic(auto)]
+
 ghost use Rattle.std.specs.Prelude.{◌≡◌, length};
 ghost use Rattle.settings.specs.LookUps.{edition_in, width_in, style_in, number_of, part_of};
 ghost use Rattle.settings.specs.Writing.{copy_of, sized, laid, width_setting, style_setting, written_of};
@@ -82,50 +83,35 @@ fn put_written(x: Written, answer: &mut [u64; 8])
 }
 
 // The edition of the project's file.
-#[unsafe(no_mangle)]
-pub extern "C" fn tulbazhik_edition(project: &[u8], house: &[u8], answer: &mut [u64; 8])
+pub fn tulbazhik_edition(project: &[u8], house: &[u8], answer: &mut [u64; 8])
     ensures { answer.new ≡ number_words (edition_in project.now house.now) }
 {
     put_number(settings::edition(project, house), answer);
 }
 
 // The width that is set.
-#[unsafe(no_mangle)]
-pub extern "C" fn tulbazhik_width(project: &[u8], house: &[u8], answer: &mut [u64; 8])
+pub fn tulbazhik_width(project: &[u8], house: &[u8], answer: &mut [u64; 8])
     ensures { answer.new ≡ number_words (width_in project.now house.now) }
 {
     put_number(settings::width(project, house), answer);
 }
 
 // Where the style name stands: C callers make the part of the file themselves.
-#[unsafe(no_mangle)]
-pub extern "C" fn tulbazhik_style(project: &[u8], house: &[u8], answer: &mut [u64; 8])
+pub fn tulbazhik_style(project: &[u8], house: &[u8], answer: &mut [u64; 8])
     ensures { answer.new ≡ style_words (style_in project.now house.now) }
 {
     put_style(settings::style(project, house), answer);
 }
 
 // A copy of a file with a width, written into the room lent.
-#[unsafe(no_mangle)]
-pub extern "C" fn tulbazhik_write_width(
-    file: &[u8],
-    width: u32,
-    copy: &mut [u8],
-    answer: &mut [u64; 8],
-)
+pub fn tulbazhik_write_width(file: &[u8], width: u32, copy: &mut [u8], answer: &mut [u64; 8])
     ensures { (answer.new ≡ length_words (sized (copy_of file.now (width_setting width) (length copy.old)))) × (copy.new ≡ laid (copy_of file.now (width_setting width) (length copy.old)) copy.old) }
 {
     put_written(settings::write_width(file, width, copy), answer);
 }
 
 // The same with a style name.
-#[unsafe(no_mangle)]
-pub extern "C" fn tulbazhik_write_style(
-    file: &[u8],
-    name: &[u8],
-    copy: &mut [u8],
-    answer: &mut [u64; 8],
-)
+pub fn tulbazhik_write_style(file: &[u8], name: &[u8], copy: &mut [u8], answer: &mut [u64; 8])
     ensures { (answer.new ≡ length_words (sized (copy_of file.now (style_setting name.now) (length copy.old)))) × (copy.new ≡ laid (copy_of file.now (style_setting name.now) (length copy.old)) copy.old) }
 {
     put_written(settings::write_style(file, name, copy), answer);
