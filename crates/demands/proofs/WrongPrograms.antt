@@ -35,14 +35,14 @@ pub wrong_programs : WrongPrograms
 unfolding drive_by feed_of feed_from close_of closing step turn class_of tokens_from next_token lex_in skip symbol_end printed_into table_of shape_of costed stored_cost trees_at tree_at items_at record_at head_at step_at number is_symbol runs_on break_column fits_in cost lay page_from records record_of le looks looked page_looked lists
 wrong_programs = record {
   refuses_all_lem = λ number place e. let z : ◌≡◌ {A = ℕ} 0 1 = cc in omega arith;
-  first_piece = λ e. no_token (token rparen 1 1) (ap (λ (f : Fed). f.reply) e);
+  first_piece_lem = λ e. no_token (token rparen 1 1) (ap (λ (f : Fed). f.reply) e);
   first_piece_cut = λ e. let z : ◌≡◌ {A = ℕ} 0 1 = cc in omega arith;
   whole_piece_lem = λ e. let z : ◌≡◌ {A = ℕ} 2 1 = ap (λ (f : Fed). f.used) e in omega arith;
   whole_piece_cut = λ e. let z : ◌≡◌ {A = ℕ} 0 1 = cc in omega arith;
   -- at width 13 the sixth byte of `(rule (a b) c)` is LF, on one line it is a space
-  one_line = λ f. let e : ◌≡◌ {A = ℕ} 32 10 = ap (λ (l : List ℕ). get_or l 5 0) (f (records rule_tree) 13 (replicate 24 0)) in omega arith;
+  one_line_lem = λ f. let e : ◌≡◌ {A = ℕ} 32 10 = ap (λ (l : List ℕ). get_or l 5 0) (f (records rule_tree) 13 (replicate 24 0)) in omega arith;
   -- the empty table leaves the buffer, and the table of `a` changes it
-  same_bytes = λ o f. let e : ◌≡◌ {A = ℕ} 0 97 = ap (λ (l : List ℕ). get_or l 0 0) (sym (f [] 0 (0 ∷ 0 ∷ [])) ∙ f (records a) 0 (0 ∷ 0 ∷ [])) in omega arith;
+  same_bytes_lem = λ o f. let e : ◌≡◌ {A = ℕ} 0 97 = ap (λ (l : List ℕ). get_or l 0 0) (sym (f [] 0 (0 ∷ 0 ∷ [])) ∙ f (records a) 0 (0 ∷ 0 ∷ [])) in omega arith;
   leaves_all = λ f. let e : ◌≡◌ {A = ℕ} 0 97 = ap (λ (l : List ℕ). get_or l 0 0) (f (records a) 0 (0 ∷ 0 ∷ [])) in omega arith;
   one_line_text = λ f. let e : ◌≡◌ {A = ℕ} 32 10 = ap (λ (l : List ℕ). get_or l 5 0) (f (and rule_tree none) 13) in omega arith;
   -- no bytes are the text both of no tree and of one

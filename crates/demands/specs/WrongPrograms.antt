@@ -57,14 +57,14 @@ pub record WrongPrograms : Type 0 where
   -- `a` is a symbol
   pub refuses_all_lem : (number place : List ℕ → ℕ → ℕ) → refuses_all number place (97 ∷ []) 0 ≡ next_token (97 ∷ []) 0 → ⊥
   -- the promise is broken at the `)` of ` )`, cut before it; and a host that feeds ` ` and `)` gets no token
-  pub first_piece : first_piece (feed_of fresh_state (32 ∷ [])).state (41 ∷ []) ≡ feed_of (feed_of fresh_state (32 ∷ [])).state (41 ∷ []) → ⊥
+  pub first_piece_lem : first_piece (feed_of fresh_state (32 ∷ [])).state (41 ∷ []) ≡ feed_of (feed_of fresh_state (32 ∷ [])).state (41 ∷ []) → ⊥
   pub first_piece_cut : drive_by first_piece close_of 9 fresh_state ((32 ∷ []) ∷ (41 ∷ []) ∷ []) ≡ tokens_of (32 ∷ 41 ∷ []) → ⊥
   -- the promise is broken at `))`, of which one byte is consumed; and a host loses the second token
   pub whole_piece_lem : whole_piece fresh_state (41 ∷ 41 ∷ []) ≡ feed_of fresh_state (41 ∷ 41 ∷ []) → ⊥
   pub whole_piece_cut : drive_by whole_piece close_of 9 fresh_state ((41 ∷ 41 ∷ []) ∷ []) ≡ tokens_of (41 ∷ 41 ∷ []) → ⊥
   -- as what the lent buffer holds
-  pub one_line : Keeps one_line → ⊥
-  pub same_bytes : (o : List ℕ) → Keeps (same_bytes o) → ⊥
+  pub one_line_lem : Keeps one_line → ⊥
+  pub same_bytes_lem : (o : List ℕ) → Keeps (same_bytes o) → ⊥
   pub leaves_all : Keeps untouched → ⊥
   -- as texts of trees
   pub one_line_text : ((xs : Trees) (w : ℕ) → page xs widest ≡ page xs w) → ⊥
