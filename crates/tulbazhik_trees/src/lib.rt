@@ -1,5 +1,6 @@
-// The door for C to reading and printing: the proved functions under C names, over slices and an answer of eight words (host/include/tulbazhik.h).
+// The door for C to reading and printing: the proved functions over slices and an answer of eight words (host/include/tulbazhik.h). tulbazhik_trees_c exports them under their C names.
 #![tactic(auto)]
+
 ghost use Rattle.std.specs.Prelude.{◌≡◌, length};
 ghost use Rattle.reader.specs.Reading.{reading, read_into, read_of};
 ghost use Rattle.printer.specs.Printing.{printing, printed_into, print_of};
@@ -28,16 +29,14 @@ fn put_print(x: Printed, answer: &mut [u64; 8])
 }
 
 // The trees of a source, written as a table into the room lent.
-#[unsafe(no_mangle)]
-pub extern "C" fn tulbazhik_read(src: &[u8], table: &mut [u8], answer: &mut [u64; 8])
+pub fn tulbazhik_read(src: &[u8], table: &mut [u8], answer: &mut [u64; 8])
     ensures { (answer.new ≡ length_words (reading src.now (length table.old))) × (table.new ≡ read_into src.now table.old) }
 {
     put_read(reader::read(src, table), answer);
 }
 
 // A table laid out at a width, written into the room lent.
-#[unsafe(no_mangle)]
-pub extern "C" fn tulbazhik_print(table: &[u8], width: u32, text: &mut [u8], answer: &mut [u64; 8])
+pub fn tulbazhik_print(table: &[u8], width: u32, text: &mut [u8], answer: &mut [u64; 8])
     ensures { (answer.new ≡ print_words (printing table.now width (length text.old))) × (text.new ≡ printed_into table.now width text.old) }
 {
     put_print(printer::print(table, width, text), answer);
