@@ -181,9 +181,9 @@ module _ (t : List ℕ) (w total : ℕ) where
       state = begun r.state (drop (length b) o) g.left;
     }
 
-    go_on : (s at : State) (o b : List ℕ) → Reached s o → Rests at o → Told (go_on t w s at b) o b
-    go_on s at o b hs (none_left _ _ e u f) = rw e (told_end at o b u f (begun at [] (none_left at [] e u refl)))
-    go_on s at o b hs (some_left _ _ r e bg lt f h) = rw e (by (eqb (length b) 0) refl)
+    goes_on : (s at : State) (o b : List ℕ) → Reached s o → Rests at o → Told (go_on t w s at b) o b
+    goes_on s at o b hs (none_left _ _ e u f) = rw e (told_end at o b u f (begun at [] (none_left at [] e u refl)))
+    goes_on s at o b hs (some_left _ _ r e bg lt f h) = rw e (by (eqb (length b) 0) refl)
       where
         size : length (rest t at) ≡ length (put_of t at.cursor) - at.cursor.given
         size = length-drop at.cursor.given (put_of t at.cursor)
@@ -205,10 +205,10 @@ module _ (t : List ℕ) (w total : ℕ) where
 
       -- every call on a state that calls have come to
       pub one_call : (s : State) (o b : List ℕ) → Reached s o → Told (fill_of t w s b) o b
-      one_call s o b (begun _ _ h) = subst⁻¹ (λ (y : Call). Told y o b) (fill_begun t w s b (begun_of s o h)) (go_on s s o b (begun s o h) h)
+      one_call s o b (begun _ _ h) = subst⁻¹ (λ (y : Call). Told y o b) (fill_begun t w s b (begun_of s o h)) (goes_on s s o b (begun s o h) h)
       one_call s o b (fresh _ _ e f) =
           subst⁻¹ (λ (y : Call). Told y o b) (fill_fresh t w s b (ok (found xs q)) e.fresh good)
-          (go_on s (started t w s) o b (fresh s o e f) (subst⁻¹ (Rests (started t w s)) f (start_rests s e)))
+          (goes_on s (started t w s) o b (fresh s o e f) (subst⁻¹ (Rests (started t w s)) f (start_rests s e)))
 
       pub all_calls : (bs : List (List ℕ)) (s : State) (o : List ℕ) → Reached s o
           → ((calls t w s bs).out ≡ take (room bs) o) × Reached (calls t w s bs).state (drop (room bs) o)

@@ -1,5 +1,6 @@
 // The print of a table through a window of any length: a call fills the window, and the state says where the next call goes on.
 #![tactic(auto)]
+
 mod give;
 mod machine;
 
