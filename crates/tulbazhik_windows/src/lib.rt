@@ -1,4 +1,4 @@
-// The door for C to printing through windows: the proved function under its C name, over slices, a state of 72 words and an answer of eight (host/include/tulbazhik.h).
+// The door for C to printing through windows: the proved function over slices, a state of 72 words and an answer of eight (host/include/tulbazhik.h). tulbazhik_windows_c exports it under its C name.
 #![tactic(auto)]
 mod states;
 
@@ -27,8 +27,7 @@ fn put_filled(m: Moved, state: &mut [u64; 72], answer: &mut [u64; 8])
 }
 
 // The next bytes of a table laid out at a width, as many as the window holds or as are left, in the state lent: all of it is lent as the stack.
-#[unsafe(no_mangle)]
-pub extern "C" fn tulbazhik_fill(
+pub fn tulbazhik_fill(
     table: &[u8],
     width: u32,
     state: &mut [u64; 72],
