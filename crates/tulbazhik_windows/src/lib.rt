@@ -1,5 +1,6 @@
 // The door for C to printing through windows: the proved function over slices, a state of 72 words and an answer of eight (host/include/tulbazhik.h). tulbazhik_windows_c exports it under its C name.
 #![tactic(auto)]
+
 mod states;
 
 ghost use Rattle.std.specs.Prelude.{◌≡◌, []};

@@ -1,7 +1,6 @@
 -- `tulbazhik_windows::put_filled`: a line for each answer.
 use mathlib.Core.Path.{refl}
 use Rattle.tulbazhik_windows.specs.States.{part_words}
-use borrow.Author.Rules.{rules}
 use Rattle.tulbazhik_windows.proofs.put_filled.Goals as goal
 
 pub returns-in-Bytes : goal.returns-in-Bytes

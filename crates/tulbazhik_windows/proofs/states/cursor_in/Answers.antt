@@ -1,7 +1,6 @@
 -- `tulbazhik_windows::states::cursor_in`: the words by their places.
 use mathlib.Core.Path.{refl}
 use Rattle.tulbazhik_windows.specs.States.{cursor_in}
-use borrow.Author.Rules.{rules}
 use Rattle.tulbazhik_windows.proofs.states.cursor_in.Goals as goal
 
 pub returns : goal.returns

@@ -1,7 +1,6 @@
 -- `tulbazhik_windows::states::store`: the words one after another.
 use mathlib.Core.Path.{refl}
 use Rattle.tulbazhik_windows.specs.States.{stored}
-use borrow.Author.Rules.{rules}
 use Rattle.tulbazhik_windows.proofs.states.store.Goals as goal
 
 pub returns : goal.returns
