@@ -19,7 +19,6 @@ use Rattle.lexer.specs.declared.Lexed.TheVariants as lexed
 use Rattle.lexer.specs.declared.literal.Digits.{Digits}
 use Rattle.lexer.specs.Tokens.{Token, token_of, answer_of}
 use Rattle.lexer.specs.declared.literal.Reading.{Reading}
-use Rattle.lexer.specs.Literals.{reading}
 use Rattle.feeder.specs.declared.State.{State}
 use Rattle.feeder.specs.declared.Answer.{Answer}
 use Rattle.feeder.specs.declared.Answer.TheVariants as answer

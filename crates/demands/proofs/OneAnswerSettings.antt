@@ -1,9 +1,8 @@
 -- How little the promises of settings leave open: two results that meet a promise are equal. Assumes nothing.
-use Prim.Native.Nat.{ℕ}
 use mathlib.Core.Path.{◌≡◌, refl, sym, ap, ◌∙◌}
 use Rattle.refusals.specs.declared.Refusal.{Refusal}
 use Rattle.settings.specs.declared.Side.{Side}
-use Rattle.settings.specs.LookUps.{Span, Sided, given, faulty, number_of, part_of}
+use Rattle.settings.specs.LookUps.{Span, number_of, part_of}
 use Rattle.settings.specs.Writing.{written_of}
 use Rattle.settings.specs.declared.Number.{Number}
 use Rattle.settings.specs.declared.Number.TheVariants as number
