@@ -1,7 +1,7 @@
 /* Tulbazhik's proved functions for C (C11 or C++11): lexing, feeding, reading and printing of ISLE rule files, and the settings of
    a project. Link libtulbazhik_lex.a (next_token), libtulbazhik_feed.a (fresh, feed, close), libtulbazhik_trees.a (read, print),
    libtulbazhik_windows.a (fill) and libtulbazhik_settings.a (edition, width, style, write_width, write_style), as many of them
-   as are used; `rt staticlib tulbazhik_lex` and so on writes each for x86-64.
+   as are used; host/archives writes each for x86-64, into target/staticlib.
 
    Each function is proved to meet its contract on every input, to stay within what it is lent, and to return. No pointer is
    checked, so these are the caller's duties:

@@ -1,4 +1,4 @@
-//! Tells rustc where the static libraries are: TULBAZHIK_LIB, or the folder that `rt staticlib` writes to.
+//! Tells rustc where the static libraries are: TULBAZHIK_LIB, or the folder that host/archives writes to.
 
 use std::path::PathBuf;
 
