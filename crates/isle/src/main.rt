@@ -62,7 +62,7 @@ fn main(rt: HostRuntime) -> io::Result<()> {
             );
         }
     }
-    let mut table = vec![in rt.alloc(); 0; ROOM]?;
-    let mut out = vec![in rt.alloc(); 0; ROOM]?;
+    let mut table = [0u8; ROOM];
+    let mut out = [0u8; ROOM];
     rewrite(&mut to, &src, &mut table, &mut out)
 }
