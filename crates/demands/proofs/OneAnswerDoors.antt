@@ -4,19 +4,19 @@ use Rattle.demands.specs.OneAnswerDoors.{OneAnswerDoors}
 
 pub one_answer_doors : OneAnswerDoors
 one_answer_doors = record {
-  words·put-token = λ κs a x y s t e f. e ∙ sym f;
-  words·put-refusal = λ κs a x y s t e f. e ∙ sym f;
-  words·put-length = λ κs a x y s t e f. e ∙ sym f;
-  words·put-text = λ κs a x y s t e f. e ∙ sym f;
-  words·put-lexed = λ κs a x y s t e f. e ∙ sym f;
-  words·put-out = λ κs a x y s t e f. e ∙ sym f;
-  tulbazhik-lex·tulbazhik-next-token = λ κs a x y s t e f. e ∙ sym f;
-  tulbazhik-feed·tulbazhik-fresh = λ κs a x y s t e f. e ∙ sym f;
-  tulbazhik-feed·tulbazhik-feed = λ κs a x y s t e f. (e.0 ∙ sym f.0, e.1 ∙ sym f.1);
-  tulbazhik-feed·tulbazhik-close = λ κs a x y s t e f. (e.0 ∙ sym f.0, e.1 ∙ sym f.1);
-  tulbazhik-feed·states·pack = λ κs a x y s t e f. e ∙ sym f;
-  tulbazhik-feed·states·unpack = λ κs a x y s t e f. e ∙ sym f;
-  tulbazhik-trees·tulbazhik-read = λ κs a x y s t e f. (e.0 ∙ sym f.0, e.1 ∙ sym f.1);
-  tulbazhik-windows·tulbazhik-fill = λ κs a x y s t e f. (e.0 ∙ sym f.0, e.1 ∙ sym f.1, e.2 ∙ sym f.2);
-  tulbazhik-trees·tulbazhik-print = λ κs a x y s t e f. (e.0 ∙ sym f.0, e.1 ∙ sym f.1);
+  words_put_token = λ κs a x y s t e f. e ∙ sym f;
+  words_put_refusal = λ κs a x y s t e f. e ∙ sym f;
+  words_put_length = λ κs a x y s t e f. e ∙ sym f;
+  words_put_text = λ κs a x y s t e f. e ∙ sym f;
+  words_put_lexed = λ κs a x y s t e f. e ∙ sym f;
+  words_put_out = λ κs a x y s t e f. e ∙ sym f;
+  tulbazhik_lex_tulbazhik_next_token = λ κs a x y s t e f. e ∙ sym f;
+  tulbazhik_feed_tulbazhik_fresh = λ κs a x y s t e f. e ∙ sym f;
+  tulbazhik_feed_tulbazhik_feed = λ κs a x y s t e f. (e.0 ∙ sym f.0, e.1 ∙ sym f.1);
+  tulbazhik_feed_tulbazhik_close = λ κs a x y s t e f. (e.0 ∙ sym f.0, e.1 ∙ sym f.1);
+  tulbazhik_feed_states_pack = λ κs a x y s t e f. e ∙ sym f;
+  tulbazhik_feed_states_unpack = λ κs a x y s t e f. e ∙ sym f;
+  tulbazhik_trees_tulbazhik_read = λ κs a x y s t e f. (e.0 ∙ sym f.0, e.1 ∙ sym f.1);
+  tulbazhik_windows_tulbazhik_fill = λ κs a x y s t e f. (e.0 ∙ sym f.0, e.1 ∙ sym f.1, e.2 ∙ sym f.2);
+  tulbazhik_trees_tulbazhik_print = λ κs a x y s t e f. (e.0 ∙ sym f.0, e.1 ∙ sym f.1);
 }

@@ -42,15 +42,15 @@ written_same (written.Refused x) (written.Refused y) e = ap written.Refused (ref
 
 pub one_answer_settings : OneAnswerSettings
 one_answer_settings = record {
-  settings·edition = λ κs a x y s t e f. number_same x y (e ∙ sym f);
-  settings·width = λ κs a x y s t e f. number_same x y (e ∙ sym f);
-  settings·style = λ κs a x y s t e f. part_same x y (e ∙ sym f);
-  settings·style-name = λ κs a x y s t e f. (e.0 ∙ sym f.0, e.1 ∙ sym f.1);
-  settings·write-width = λ κs a x y s t e f. (written_same x y (e.0 ∙ sym f.0), e.1 ∙ sym f.1);
-  settings·write-style = λ κs a x y s t e f. (written_same x y (e.0 ∙ sym f.0), e.1 ∙ sym f.1);
-  tulbazhik-settings·tulbazhik-edition = λ κs a x y s t e f. e ∙ sym f;
-  tulbazhik-settings·tulbazhik-width = λ κs a x y s t e f. e ∙ sym f;
-  tulbazhik-settings·tulbazhik-style = λ κs a x y s t e f. e ∙ sym f;
-  tulbazhik-settings·tulbazhik-write-width = λ κs a x y s t e f. (e.0 ∙ sym f.0, e.1 ∙ sym f.1);
-  tulbazhik-settings·tulbazhik-write-style = λ κs a x y s t e f. (e.0 ∙ sym f.0, e.1 ∙ sym f.1);
+  settings_edition = λ κs a x y s t e f. number_same x y (e ∙ sym f);
+  settings_width = λ κs a x y s t e f. number_same x y (e ∙ sym f);
+  settings_style = λ κs a x y s t e f. part_same x y (e ∙ sym f);
+  settings_style_name = λ κs a x y s t e f. (e.0 ∙ sym f.0, e.1 ∙ sym f.1);
+  settings_write_width = λ κs a x y s t e f. (written_same x y (e.0 ∙ sym f.0), e.1 ∙ sym f.1);
+  settings_write_style = λ κs a x y s t e f. (written_same x y (e.0 ∙ sym f.0), e.1 ∙ sym f.1);
+  tulbazhik_settings_tulbazhik_edition = λ κs a x y s t e f. e ∙ sym f;
+  tulbazhik_settings_tulbazhik_width = λ κs a x y s t e f. e ∙ sym f;
+  tulbazhik_settings_tulbazhik_style = λ κs a x y s t e f. e ∙ sym f;
+  tulbazhik_settings_tulbazhik_write_width = λ κs a x y s t e f. (e.0 ∙ sym f.0, e.1 ∙ sym f.1);
+  tulbazhik_settings_tulbazhik_write_style = λ κs a x y s t e f. (e.0 ∙ sym f.0, e.1 ∙ sym f.1);
 }

@@ -4,15 +4,15 @@ use Rattle.demands.specs.PromisesSettings.{PromisesSettings}
 
 pub promises_settings : PromisesSettings
 promises_settings = record {
-  settings·edition = λ κs a x s. refl;
-  settings·width = λ κs a x s. refl;
-  settings·style = λ κs a x s. refl;
-  settings·style-name = λ κs a x s. refl;
-  settings·write-width = λ κs a x s. refl;
-  settings·write-style = λ κs a x s. refl;
-  tulbazhik-settings·tulbazhik-edition = λ κs a x s. refl;
-  tulbazhik-settings·tulbazhik-width = λ κs a x s. refl;
-  tulbazhik-settings·tulbazhik-style = λ κs a x s. refl;
-  tulbazhik-settings·tulbazhik-write-width = λ κs a x s. refl;
-  tulbazhik-settings·tulbazhik-write-style = λ κs a x s. refl;
+  settings_edition = λ κs a x s. refl;
+  settings_width = λ κs a x s. refl;
+  settings_style = λ κs a x s. refl;
+  settings_style_name = λ κs a x s. refl;
+  settings_write_width = λ κs a x s. refl;
+  settings_write_style = λ κs a x s. refl;
+  tulbazhik_settings_tulbazhik_edition = λ κs a x s. refl;
+  tulbazhik_settings_tulbazhik_width = λ κs a x s. refl;
+  tulbazhik_settings_tulbazhik_style = λ κs a x s. refl;
+  tulbazhik_settings_tulbazhik_write_width = λ κs a x s. refl;
+  tulbazhik_settings_tulbazhik_write_style = λ κs a x s. refl;
 }

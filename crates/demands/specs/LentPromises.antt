@@ -1,4 +1,4 @@
--- What the contracts of the lent entrance say. Its functions are proved by hand, and their contracts are propositions of the program logic: the theorems
+-- What the contracts of the lent entrance say. They speak of a state that is changed in place, and are propositions of the program logic: the theorems
 -- `feed_in_says` and `close_in_says` tie each of them to these definitions.
 use Rattle.std.specs.Prelude.{◌≡◌, List, ℕ}
 use Rattle.feeder.specs.declared.State.{State}

@@ -142,71 +142,71 @@ FedFits f = OutFits f.out
 
 -- a field a public function; refusals has none, the doors for C are in OneAnswerDoors, settings in OneAnswerSettings
 pub record OneAnswer : Type 0 where
-  pub lists·byte-at : One lists-byte-at.Post
-  pub lists·less : One lists-less.Post
-  pub lists·least : One lists-least.Post
-  pub lists·put : Both lists-put.Post (λ κs s. s.1.0.now)
-  pub classes·class-of : One classes-class-of.Post
-  pub classes·class-in-loop : One classes-class-in-loop.Post
-  pub classes·is-blank : One classes-is-blank.Post
-  pub classes·is-line-end : One classes-is-line-end.Post
-  pub classes·is-semicolon : One classes-is-semicolon.Post
-  pub classes·is-lparen : One classes-is-lparen.Post
-  pub classes·is-rparen : One classes-is-rparen.Post
-  pub classes·is-at-sign : One classes-is-at-sign.Post
-  pub classes·is-high : One classes-is-high.Post
-  pub classes·is-sym-first-char : One classes-is-sym-first-char.Post
-  pub classes·is-sym-other-char : One classes-is-sym-other-char.Post
-  pub classes·digit-of : One classes-digit-of.Post
-  pub classes·is-literal-byte : One classes-is-literal-byte.Post
-  pub classes·runs·symbol-end : One classes-runs-symbol-end.Post
-  pub classes·runs·line-end : One classes-runs-line-end.Post
-  pub wide·as-unsigned : One wide-as-unsigned.Post
-  pub wide·negative : One wide-negative.Post
-  pub wide·with-sign : OneHeld SignedFits wide-with-sign.Post
-  pub wide·grow : One wide-grow.Post
-  pub wide·text-len : One wide-text-len.Post
-  pub wide·put-text : Both wide-put-text.Post (λ κs s. s.1.0.now)
-  pub wide·put-u16 : Left wide-put-u16.Post (λ κs s. s.1.0.now)
-  pub wide·put-u32 : Left wide-put-u32.Post (λ κs s. s.1.0.now)
-  pub wide·put-wide : Left wide-put-wide.Post (λ κs s. s.1.0.now)
-  pub wide·u16-at : One wide-u16-at.Post
-  pub wide·u32-at : One wide-u32-at.Post
-  pub wide·wide-at : OneHeld WideFits wide-wide-at.Post
-  pub lexer·literal·grow : One lexer-literal-grow.Post
-  pub lexer·literal·digits-from : One lexer-literal-digits-from.Post
-  pub lexer·literal·radix-of : One lexer-literal-radix-of.Post
-  pub lexer·literal·concluded : OneHeld LexedFits lexer-literal-concluded.Post
-  pub lexer·gap-end : One lexer-gap-end.Post
-  pub lexer·next-token : OneHeld LexedFits lexer-next-token.Post
-  pub feeder·fresh : One feeder-fresh.Post
-  pub feeder·feed : OneHeld FedFits feeder-feed.Post
-  pub feeder·close : OneHeld FedFits feeder-close.Post
-  pub feeder-lent·feed-through : OneHeld FedFits feeder-lent-feed-through.Post
-  pub feeder-lent·close-through : OneHeld FedFits feeder-lent-close-through.Post
-  pub records·len-at : One records-len-at.Post
-  pub records·kind-at : One records-kind-at.Post
-  pub records·head-at : One records-head-at.Post
-  pub records·put-head : Left records-put-head.Post (λ κs s. s.1.1.0.now)
-  pub records·put : Left records-put.Post (λ κs s. s.1.1.0.now)
-  pub table·record-at : One table-record-at.Post
-  pub table·is-symbol : One table-is-symbol.Post
-  pub table·step-at : One table-step-at.Post
-  pub table·past-symbol : One table-past-symbol.Post
-  pub table·stored-cost : One table-stored-cost.Post
-  pub table·walk·earlier : One table-walk-earlier.Post
-  pub table·walk·own-wrong : One table-walk-own-wrong.Post
-  pub table·walk·walk-tree : One table-walk-walk-tree.Post
-  pub table·past : One table-past.Post
-  pub table·check : One table-check.Post
-  pub reader·read : Both reader-read.Post (λ κs s. s.1.0.now)
-  pub printer·cost·break-column : One printer-cost-break-column.Post
-  pub printer·cost·fits-in : One printer-cost-fits-in.Post
-  pub printer·cost·fits : One printer-cost-fits.Post
-  pub printer·print : Both printer-print.Post (λ κs s. s.1.1.0.now)
-  pub windows·fresh : One windows-fresh.Post
-  pub windows·fill : Both windows-fill.Post (λ κs s. s.1.1.1.0.now)
-  pub windows·fill-in : BothTwo windows-fill-in.Post (λ κs s. s.1.1.1.0.now) (λ κs s. s.1.1.1.1.0.now)
+  pub lists_byte_at : One lists-byte-at.Post
+  pub lists_less : One lists-less.Post
+  pub lists_least : One lists-least.Post
+  pub lists_put : Both lists-put.Post (λ κs s. s.1.0.now)
+  pub classes_class_of : One classes-class-of.Post
+  pub classes_class_in_loop : One classes-class-in-loop.Post
+  pub classes_is_blank : One classes-is-blank.Post
+  pub classes_is_line_end : One classes-is-line-end.Post
+  pub classes_is_semicolon : One classes-is-semicolon.Post
+  pub classes_is_lparen : One classes-is-lparen.Post
+  pub classes_is_rparen : One classes-is-rparen.Post
+  pub classes_is_at_sign : One classes-is-at-sign.Post
+  pub classes_is_high : One classes-is-high.Post
+  pub classes_is_sym_first_char : One classes-is-sym-first-char.Post
+  pub classes_is_sym_other_char : One classes-is-sym-other-char.Post
+  pub classes_digit_of : One classes-digit-of.Post
+  pub classes_is_literal_byte : One classes-is-literal-byte.Post
+  pub classes_runs_symbol_end : One classes-runs-symbol-end.Post
+  pub classes_runs_line_end : One classes-runs-line-end.Post
+  pub wide_as_unsigned : One wide-as-unsigned.Post
+  pub wide_negative : One wide-negative.Post
+  pub wide_with_sign : OneHeld SignedFits wide-with-sign.Post
+  pub wide_grow : One wide-grow.Post
+  pub wide_text_len : One wide-text-len.Post
+  pub wide_put_text : Both wide-put-text.Post (λ κs s. s.1.0.now)
+  pub wide_put_u16 : Left wide-put-u16.Post (λ κs s. s.1.0.now)
+  pub wide_put_u32 : Left wide-put-u32.Post (λ κs s. s.1.0.now)
+  pub wide_put_wide : Left wide-put-wide.Post (λ κs s. s.1.0.now)
+  pub wide_u16_at : One wide-u16-at.Post
+  pub wide_u32_at : One wide-u32-at.Post
+  pub wide_wide_at : OneHeld WideFits wide-wide-at.Post
+  pub lexer_literal_grow : One lexer-literal-grow.Post
+  pub lexer_literal_digits_from : One lexer-literal-digits-from.Post
+  pub lexer_literal_radix_of : One lexer-literal-radix-of.Post
+  pub lexer_literal_concluded : OneHeld LexedFits lexer-literal-concluded.Post
+  pub lexer_gap_end : One lexer-gap-end.Post
+  pub lexer_next_token : OneHeld LexedFits lexer-next-token.Post
+  pub feeder_fresh : One feeder-fresh.Post
+  pub feeder_feed : OneHeld FedFits feeder-feed.Post
+  pub feeder_close : OneHeld FedFits feeder-close.Post
+  pub feeder_lent_feed_through : OneHeld FedFits feeder-lent-feed-through.Post
+  pub feeder_lent_close_through : OneHeld FedFits feeder-lent-close-through.Post
+  pub records_len_at : One records-len-at.Post
+  pub records_kind_at : One records-kind-at.Post
+  pub records_head_at : One records-head-at.Post
+  pub records_put_head : Left records-put-head.Post (λ κs s. s.1.1.0.now)
+  pub records_put : Left records-put.Post (λ κs s. s.1.1.0.now)
+  pub table_record_at : One table-record-at.Post
+  pub table_is_symbol : One table-is-symbol.Post
+  pub table_step_at : One table-step-at.Post
+  pub table_past_symbol : One table-past-symbol.Post
+  pub table_stored_cost : One table-stored-cost.Post
+  pub table_walk_earlier : One table-walk-earlier.Post
+  pub table_walk_own_wrong : One table-walk-own-wrong.Post
+  pub table_walk_walk_tree : One table-walk-walk-tree.Post
+  pub table_past : One table-past.Post
+  pub table_check : One table-check.Post
+  pub reader_read : Both reader-read.Post (λ κs s. s.1.0.now)
+  pub printer_cost_break_column : One printer-cost-break-column.Post
+  pub printer_cost_fits_in : One printer-cost-fits-in.Post
+  pub printer_cost_fits : One printer-cost-fits.Post
+  pub printer_print : Both printer-print.Post (λ κs s. s.1.1.0.now)
+  pub windows_fresh : One windows-fresh.Post
+  pub windows_fill : Both windows-fill.Post (λ κs s. s.1.1.1.0.now)
+  pub windows_fill_in : BothTwo windows-fill-in.Post (λ κs s. s.1.1.1.0.now) (λ κs s. s.1.1.1.1.0.now)
   -- the lent entrance: what its contracts say stands in LentPromises
-  pub feeder-lent·feed_in_lem : (s : State) (piece : List ℕ) (x y : Out) (m n : State) → OutFits x → OutFits y → FedIn s piece x m → FedIn s piece y n → (x ≡ y) × (m ≡ n)
-  pub feeder-lent·close_in_lem : (s : State) (x y : Out) (m n : State) → OutFits x → OutFits y → ClosedIn s x m → ClosedIn s y n → (x ≡ y) × (m ≡ n)
+  pub feeder_lent_feed_in : (s : State) (piece : List ℕ) (x y : Out) (m n : State) → OutFits x → OutFits y → FedIn s piece x m → FedIn s piece y n → (x ≡ y) × (m ≡ n)
+  pub feeder_lent_close_in : (s : State) (x y : Out) (m n : State) → OutFits x → OutFits y → ClosedIn s x m → ClosedIn s y n → (x ≡ y) × (m ≡ n)

@@ -18,18 +18,18 @@ use Rattle.demands.specs.OneAnswer.{One, Left, LeftTwo, LeftThree}
 
 -- a field a public function; of the lent memories the words of the state and of the answer, and the table, the text or the window
 pub record OneAnswerDoors : Type 0 where
-  pub words·put-token : Left words-put-token.Post (λ κs s. s.1.1.1.0.now)
-  pub words·put-refusal : Left words-put-refusal.Post (λ κs s. s.1.1.0.now)
-  pub words·put-length : Left words-put-length.Post (λ κs s. s.1.0.now)
-  pub words·put-text : Left words-put-text.Post (λ κs s. s.1.1.0.now)
-  pub words·put-lexed : Left words-put-lexed.Post (λ κs s. s.1.0.now)
-  pub words·put-out : Left words-put-out.Post (λ κs s. s.1.0.now)
-  pub tulbazhik-lex·tulbazhik-next-token : Left tulbazhik-lex-tulbazhik-next-token.Post (λ κs s. s.1.1.0.now)
-  pub tulbazhik-feed·tulbazhik-fresh : Left tulbazhik-feed-tulbazhik-fresh.Post (λ κs s. s.0.now)
-  pub tulbazhik-feed·tulbazhik-feed : LeftTwo tulbazhik-feed-tulbazhik-feed.Post (λ κs s. s.0.now) (λ κs s. s.1.1.0.now)
-  pub tulbazhik-feed·tulbazhik-close : LeftTwo tulbazhik-feed-tulbazhik-close.Post (λ κs s. s.0.now) (λ κs s. s.1.0.now)
-  pub tulbazhik-feed·states·pack : One tulbazhik-feed-states-pack.Post
-  pub tulbazhik-feed·states·unpack : One tulbazhik-feed-states-unpack.Post
-  pub tulbazhik-trees·tulbazhik-read : LeftTwo tulbazhik-trees-tulbazhik-read.Post (λ κs s. s.1.1.0.now) (λ κs s. s.1.0.now)
-  pub tulbazhik-trees·tulbazhik-print : LeftTwo tulbazhik-trees-tulbazhik-print.Post (λ κs s. s.1.1.1.0.now) (λ κs s. s.1.1.0.now)
-  pub tulbazhik-windows·tulbazhik-fill : LeftThree tulbazhik-windows-tulbazhik-fill.Post (λ κs s. s.1.1.1.1.0.now) (λ κs s. s.1.1.0.now) (λ κs s. s.1.1.1.0.now)
+  pub words_put_token : Left words-put-token.Post (λ κs s. s.1.1.1.0.now)
+  pub words_put_refusal : Left words-put-refusal.Post (λ κs s. s.1.1.0.now)
+  pub words_put_length : Left words-put-length.Post (λ κs s. s.1.0.now)
+  pub words_put_text : Left words-put-text.Post (λ κs s. s.1.1.0.now)
+  pub words_put_lexed : Left words-put-lexed.Post (λ κs s. s.1.0.now)
+  pub words_put_out : Left words-put-out.Post (λ κs s. s.1.0.now)
+  pub tulbazhik_lex_tulbazhik_next_token : Left tulbazhik-lex-tulbazhik-next-token.Post (λ κs s. s.1.1.0.now)
+  pub tulbazhik_feed_tulbazhik_fresh : Left tulbazhik-feed-tulbazhik-fresh.Post (λ κs s. s.0.now)
+  pub tulbazhik_feed_tulbazhik_feed : LeftTwo tulbazhik-feed-tulbazhik-feed.Post (λ κs s. s.0.now) (λ κs s. s.1.1.0.now)
+  pub tulbazhik_feed_tulbazhik_close : LeftTwo tulbazhik-feed-tulbazhik-close.Post (λ κs s. s.0.now) (λ κs s. s.1.0.now)
+  pub tulbazhik_feed_states_pack : One tulbazhik-feed-states-pack.Post
+  pub tulbazhik_feed_states_unpack : One tulbazhik-feed-states-unpack.Post
+  pub tulbazhik_trees_tulbazhik_read : LeftTwo tulbazhik-trees-tulbazhik-read.Post (λ κs s. s.1.1.0.now) (λ κs s. s.1.0.now)
+  pub tulbazhik_trees_tulbazhik_print : LeftTwo tulbazhik-trees-tulbazhik-print.Post (λ κs s. s.1.1.1.0.now) (λ κs s. s.1.1.0.now)
+  pub tulbazhik_windows_tulbazhik_fill : LeftThree tulbazhik-windows-tulbazhik-fill.Post (λ κs s. s.1.1.1.1.0.now) (λ κs s. s.1.1.0.now) (λ κs s. s.1.1.1.0.now)

@@ -14,16 +14,16 @@ use Rattle.tulbazhik_settings.proofs.tulbazhik_write_style.Reads as tulbazhik-wr
 use Rattle.demands.specs.OneAnswer.{One, Left, LeftTwo, Both}
 
 pub record OneAnswerSettings : Type 0 where
-  pub settings·edition : One settings-edition.Post
-  pub settings·width : One settings-width.Post
-  pub settings·style : One settings-style.Post
+  pub settings_edition : One settings-edition.Post
+  pub settings_width : One settings-width.Post
+  pub settings_style : One settings-style.Post
   -- of a part that is handed out its bytes, and where in memory they stand
-  pub settings·style-name : (κs : _) (a : _) (x y : _) (s t : _) → settings-style-name.Post κs a x s → settings-style-name.Post κs a y t → (x.now ≡ y.now) × (x.ref_ptr ≡ y.ref_ptr)
-  pub settings·write-width : Both settings-write-width.Post (λ κs s. s.1.1.0.now)
-  pub settings·write-style : Both settings-write-style.Post (λ κs s. s.1.1.0.now)
+  pub settings_style_name : (κs : _) (a : _) (x y : _) (s t : _) → settings-style-name.Post κs a x s → settings-style-name.Post κs a y t → (x.now ≡ y.now) × (x.ref_ptr ≡ y.ref_ptr)
+  pub settings_write_width : Both settings-write-width.Post (λ κs s. s.1.1.0.now)
+  pub settings_write_style : Both settings-write-style.Post (λ κs s. s.1.1.0.now)
   -- the door for C
-  pub tulbazhik-settings·tulbazhik-edition : Left tulbazhik-edition.Post (λ κs s. s.1.1.0.now)
-  pub tulbazhik-settings·tulbazhik-width : Left tulbazhik-width.Post (λ κs s. s.1.1.0.now)
-  pub tulbazhik-settings·tulbazhik-style : Left tulbazhik-style.Post (λ κs s. s.1.1.0.now)
-  pub tulbazhik-settings·tulbazhik-write-width : LeftTwo tulbazhik-write-width.Post (λ κs s. s.1.1.1.0.now) (λ κs s. s.1.1.0.now)
-  pub tulbazhik-settings·tulbazhik-write-style : LeftTwo tulbazhik-write-style.Post (λ κs s. s.1.1.1.0.now) (λ κs s. s.1.1.0.now)
+  pub tulbazhik_settings_tulbazhik_edition : Left tulbazhik-edition.Post (λ κs s. s.1.1.0.now)
+  pub tulbazhik_settings_tulbazhik_width : Left tulbazhik-width.Post (λ κs s. s.1.1.0.now)
+  pub tulbazhik_settings_tulbazhik_style : Left tulbazhik-style.Post (λ κs s. s.1.1.0.now)
+  pub tulbazhik_settings_tulbazhik_write_width : LeftTwo tulbazhik-write-width.Post (λ κs s. s.1.1.1.0.now) (λ κs s. s.1.1.0.now)
+  pub tulbazhik_settings_tulbazhik_write_style : LeftTwo tulbazhik-write-style.Post (λ κs s. s.1.1.1.0.now) (λ κs s. s.1.1.0.now)

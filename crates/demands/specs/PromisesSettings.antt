@@ -17,28 +17,28 @@ use Rattle.tulbazhik_settings.proofs.tulbazhik_write_width.Reads as tulbazhik-wr
 use Rattle.tulbazhik_settings.proofs.tulbazhik_write_style.Reads as tulbazhik-write-style
 
 pub record PromisesSettings : Type 1 where
-  pub settings·edition : (κs : _) (a : _) (x : _) (s : _) → settings-edition.Post κs a x s ≡ (number_of x ≡ edition_in a.0.now a.1.0.now)
-  pub settings·width : (κs : _) (a : _) (x : _) (s : _) → settings-width.Post κs a x s ≡ (number_of x ≡ width_in a.0.now a.1.0.now)
-  pub settings·style : (κs : _) (a : _) (x : _) (s : _) → settings-style.Post κs a x s ≡ (part_of x ≡ style_in a.0.now a.1.0.now)
-  pub settings·style-name : (κs : _) (a : _) (x : _) (s : _)
+  pub settings_edition : (κs : _) (a : _) (x : _) (s : _) → settings-edition.Post κs a x s ≡ (number_of x ≡ edition_in a.0.now a.1.0.now)
+  pub settings_width : (κs : _) (a : _) (x : _) (s : _) → settings-width.Post κs a x s ≡ (number_of x ≡ width_in a.0.now a.1.0.now)
+  pub settings_style : (κs : _) (a : _) (x : _) (s : _) → settings-style.Post κs a x s ≡ (part_of x ≡ style_in a.0.now a.1.0.now)
+  pub settings_style_name : (κs : _) (a : _) (x : _) (s : _)
       → settings-style-name.Post κs a x s
       ≡ ((x.now ≡ style_name_in a.0.now a.1.0.now) × (x.ref_ptr ≡ part_at a.0.ref_ptr a.1.0.ref_ptr (style_in a.0.now a.1.0.now)))
-  pub settings·write-width : (κs : _) (a : _) (x : _) (s : _)
+  pub settings_write_width : (κs : _) (a : _) (x : _) (s : _)
       → settings-write-width.Post κs a x s
       ≡ ((written_of x ≡ sized (copy_of a.0.now (width_setting a.1.0) (length a.1.1.0.now)))
       × (s.1.1.0.now ≡ laid (copy_of a.0.now (width_setting a.1.0) (length a.1.1.0.now)) a.1.1.0.now))
-  pub settings·write-style : (κs : _) (a : _) (x : _) (s : _)
+  pub settings_write_style : (κs : _) (a : _) (x : _) (s : _)
       → settings-write-style.Post κs a x s
       ≡ ((written_of x ≡ sized (copy_of a.0.now (style_setting a.1.0.now) (length a.1.1.0.now)))
       × (s.1.1.0.now ≡ laid (copy_of a.0.now (style_setting a.1.0.now) (length a.1.1.0.now)) a.1.1.0.now))
-  pub tulbazhik-settings·tulbazhik-edition : (κs : _) (a : _) (x : _) (s : _) → tulbazhik-edition.Post κs a x s ≡ (s.1.1.0.now ≡ number_words (edition_in a.0.now a.1.0.now))
-  pub tulbazhik-settings·tulbazhik-width : (κs : _) (a : _) (x : _) (s : _) → tulbazhik-width.Post κs a x s ≡ (s.1.1.0.now ≡ number_words (width_in a.0.now a.1.0.now))
-  pub tulbazhik-settings·tulbazhik-style : (κs : _) (a : _) (x : _) (s : _) → tulbazhik-style.Post κs a x s ≡ (s.1.1.0.now ≡ style_words (style_in a.0.now a.1.0.now))
-  pub tulbazhik-settings·tulbazhik-write-width : (κs : _) (a : _) (x : _) (s : _)
+  pub tulbazhik_settings_tulbazhik_edition : (κs : _) (a : _) (x : _) (s : _) → tulbazhik-edition.Post κs a x s ≡ (s.1.1.0.now ≡ number_words (edition_in a.0.now a.1.0.now))
+  pub tulbazhik_settings_tulbazhik_width : (κs : _) (a : _) (x : _) (s : _) → tulbazhik-width.Post κs a x s ≡ (s.1.1.0.now ≡ number_words (width_in a.0.now a.1.0.now))
+  pub tulbazhik_settings_tulbazhik_style : (κs : _) (a : _) (x : _) (s : _) → tulbazhik-style.Post κs a x s ≡ (s.1.1.0.now ≡ style_words (style_in a.0.now a.1.0.now))
+  pub tulbazhik_settings_tulbazhik_write_width : (κs : _) (a : _) (x : _) (s : _)
       → tulbazhik-write-width.Post κs a x s
       ≡ ((s.1.1.1.0.now ≡ length_words (sized (copy_of a.0.now (width_setting a.1.0) (length a.1.1.0.now))))
       × (s.1.1.0.now ≡ laid (copy_of a.0.now (width_setting a.1.0) (length a.1.1.0.now)) a.1.1.0.now))
-  pub tulbazhik-settings·tulbazhik-write-style : (κs : _) (a : _) (x : _) (s : _)
+  pub tulbazhik_settings_tulbazhik_write_style : (κs : _) (a : _) (x : _) (s : _)
       → tulbazhik-write-style.Post κs a x s
       ≡ ((s.1.1.1.0.now ≡ length_words (sized (copy_of a.0.now (style_setting a.1.0.now) (length a.1.1.0.now))))
       × (s.1.1.0.now ≡ laid (copy_of a.0.now (style_setting a.1.0.now) (length a.1.1.0.now)) a.1.1.0.now))

@@ -1,5 +1,6 @@
 // The second entrance: the state is lent and changed in place, for a host's editor loop; thin, over the by-value forms.
 #![tactic(auto)]
+
 ghost use Rattle.std.specs.Prelude.{◌≡◌};
 ghost use Rattle.feeder.specs.Feeding.{feed_of, close_of, fed_of};
 
