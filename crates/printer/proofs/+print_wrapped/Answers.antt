@@ -7,7 +7,7 @@ use lib.ListN.{length}
 use Rattle.table.proofs.Reading.{symbol_in, integer_in, binding_in, list_in}
 use Rattle.printer.specs.Layout.{Wrap, bytes, gap}
 use Rattle.printer.specs.PrivateWriting.{laid}
-use Rattle.printer.proofs.CheckedRecords.{bad_found, symbol_found, integer_found, binding_found, list_found, list_small, found_end}
+use Rattle.printer.proofs.CheckedRecords.{bad_found, symbol_found, integer_found, binding_found, list_found, found_end}
 use Rattle.printer.proofs.Fits.{fits_right, list_cost, binding_cost}
 use Rattle.printer.proofs.ListTexts.{broken, laid_symbol, laid_integer, laid_binding}
 use Rattle.printer.proofs.LayoutBounds.{inner_le}
@@ -32,9 +32,6 @@ overflow_add-result t c = omega (arith, symbol_in _ _ _ _ c.record_at-node.ensur
 pub put_integer-n-requires : goal.put_integer-n-requires
 put_integer-n-requires t c = omega (arith, integer_in _ _ _ c.record_at-node.ensures c.in-Integer.is, c.requires)
 
-pub overflow_add-result-in-Integer : goal.overflow_add-result-in-Integer
-overflow_add-result-in-Integer t c = omega (arith, integer_in _ _ _ c.record_at-node.ensures c.in-Integer.is, c.requires)
-
 pub put_name-k-requires : goal.put_name-k-requires
 put_name-k-requires t c =
     let b = binding_in _ _ _ _ c.record_at-node.ensures c.in-Binding.is in
@@ -46,21 +43,6 @@ overflow_add-at t c = omega (arith, binding_in _ _ _ _ c.record_at-node.ensures 
 
 pub overflow_sub-depth : goal.overflow_sub-depth
 overflow_sub-depth t c = (binding_found _ _ _ _ c.requires.3 c.record_at-node.ensures _ c.in-Binding.is).deeper
-
-pub overflow_add-column : goal.overflow_add-column
-overflow_add-column t c =
-    let r = c.requires in
-    let k = c.put_name-k.ensures in
-    let h = binding_found _ _ _ _ r.3 c.record_at-node.ensures _ c.in-Binding.is in
-    let e = binding_size (laid c.args.width c.args.indent c.args.column) (laid c.args.width c.args.indent (c.args.column + c.put_name-k.result)) _ _ _ _
-    (λ x. laid_binding _ x c.args.width c.args.indent c.args.column _ k.0) h _ k.0 in
-    omega (arith, e, r.4)
-
-pub slice_bounds-print_wrapped-count : goal.slice_bounds-print_wrapped-count
-slice_bounds-print_wrapped-count t c = c.least-rest.ensures.0
-
-pub slice_bounds-print_wrapped-start : goal.slice_bounds-print_wrapped-start
-slice_bounds-print_wrapped-start t c = c.least-rest.ensures.0
 
 pub print_wrapped-tree-requires : goal.print_wrapped-tree-requires
 print_wrapped-tree-requires t c =
@@ -82,9 +64,6 @@ overflow_add-result-in-Binding t c =
     (λ x. laid_binding _ x c.args.width c.args.indent c.args.column _ k.0) h _ k.0 in
     omega (arith, e, r.4, c.print_wrapped-tree.ensures.0.1.0)
 
-pub print_flat-line-requires : goal.print_flat-line-requires
-print_flat-line-requires t c = let r = c.requires in (r.0, r.1, omega arith, r.3)
-
 pub returns-then-test : goal.returns-then-test
 returns-then-test t c =
     let r = c.requires in
@@ -92,9 +71,6 @@ returns-then-test t c =
     let g = fits_right c.args.t.now c.args.at c.args.width c.args.column _ _ _ h r.5 _ c.fits-test.ensures in
     let f = sym g.0 ∙ c.if-test.true in
     (fitting_written _ _ _ c.args.width c.args.indent c.args.column h f _ _ c.args.out.now _ c.print_flat-line.ensures, fitting_seen _ _ _ c.args.width c.args.indent c.args.column _ h g.1 f)
-
-pub overflow_add-p : goal.overflow_add-p
-overflow_add-p t c = omega (arith, list_in _ _ _ _ c.record_at-node.ensures c.in-List.is, c.requires)
 
 pub loop-i-init : goal.loop-i-init
 loop-i-init t c =
@@ -112,37 +88,10 @@ loop-i-init t c =
       counting_begin c.args.t.now c.args.at c.args.depth _ c.args.width c.args.indent (c.args.column + 1) _ h.right (list_cost _ _ _ _ _ h r.5) (omega (arith, b)) (omega (arith, e, m, q, r.1)),
     )
 
-pub slice_bounds-put_gap-count : goal.slice_bounds-put_gap-count
-slice_bounds-put_gap-count t c = c.least-from.ensures.0
-
-pub slice_bounds-put_gap-start : goal.slice_bounds-put_gap-start
-slice_bounds-put_gap-start t c = c.least-from.ensures.0
-
-pub put_gap-requires : goal.put_gap-requires
-put_gap-requires t c = let r = c.requires in omega (arith, c.loop-i.invariant.0.deeper, r.2)
-
 pub overflow_add-k : goal.overflow_add-k
 overflow_add-k t c =
     let v = c.loop-i.invariant.0 in
     omega (arith, (filling_item v c.loop-i-test.true).room, v.small, gapped t (goal.at.overflow_add-k t c).After-put_gap)
-
-pub overflow_sub-depth-in-loop-i : goal.overflow_sub-depth-in-loop-i
-overflow_sub-depth-in-loop-i t c = c.loop-i.invariant.0.deeper
-
-pub item_indent-requires : goal.item_indent-requires
-item_indent-requires t c = omega (arith, c.requires)
-
-pub overflow_add-column-in-loop-i : goal.overflow_add-column-in-loop-i
-overflow_add-column-in-loop-i t c = omega (arith, c.requires)
-
-pub item_column-requires : goal.item_column-requires
-item_column-requires t c = omega (arith, c.requires)
-
-pub slice_bounds-print_wrapped-count-in-loop-i : goal.slice_bounds-print_wrapped-count-in-loop-i
-slice_bounds-print_wrapped-count-in-loop-i t c = c.least-rest-in-loop-i.ensures.0
-
-pub slice_bounds-print_wrapped-start-in-loop-i : goal.slice_bounds-print_wrapped-start-in-loop-i
-slice_bounds-print_wrapped-start-in-loop-i t c = c.least-rest-in-loop-i.ensures.0
 
 pub print_wrapped-item-requires : goal.print_wrapped-item-requires
 print_wrapped-item-requires t c =
@@ -170,12 +119,6 @@ overflow_add-looked t c =
     let n = counting_step o.1 l _ _ c.item_indent.ensures c.item_column.ensures (filling_item o.0 l).right _ _ _ x.0.0 x.1 refl in
     omega (arith, counting_le n)
 
-pub overflow_add-i : goal.overflow_add-i
-overflow_add-i t c = omega (arith, c.loop-i-test.true, list_small _ _ _ _ (λ i. (c.type_inv.t i).fits) c.record_at-node.ensures c.in-List.is)
-
-pub loop-i-smaller : goal.loop-i-smaller
-loop-i-smaller t c = omega (arith, c.loop-i-test.true)
-
 pub loop-i-preserved : goal.loop-i-preserved
 loop-i-preserved t c =
     let o = c.loop-i.invariant in
@@ -188,15 +131,6 @@ loop-i-preserved t c =
       filling_step v l _ _ _ _ _ c.put_gap.new.out c.print_wrapped-item.new.out _ c.least-from.ensures.1 g refl (omega arith) c.least-rest-in-loop-i.ensures.1 u (omega arith),
       counting_step o.1 l _ _ c.item_indent.ensures c.item_column.ensures (filling_item v l).right _ _ _ x.0.0 x.1 (omega arith),
     )
-
-pub slice_bounds-put_close-count : goal.slice_bounds-put_close-count
-slice_bounds-put_close-count t c = c.least-rest-in-List.ensures.0
-
-pub slice_bounds-put_close-start : goal.slice_bounds-put_close-start
-slice_bounds-put_close-start t c = c.least-rest-in-List.ensures.0
-
-pub put_close-end-requires : goal.put_close-end-requires
-put_close-end-requires t c = let r = c.requires in omega arith
 
 pub overflow_add-result-in-List : goal.overflow_add-result-in-List
 overflow_add-result-in-List t c =

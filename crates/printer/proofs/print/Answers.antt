@@ -11,10 +11,6 @@ returns-then-out-n c =
     let k = print_right (table_of s.table.now) _ _ _ c.measure.ensures c.in-Bytes.is in
     print_short s.table.now _ s.width s.out.now k.0 k.1 (search (rules, not-true, leb-false))
 
-pub print_trees-looked-requires : goal.print_trees-looked-requires
-print_trees-looked-requires c =
-    (print_right (table_of c.args.table.now) _ _ _ c.measure.ensures c.in-Bytes.is).0
-
 pub returns-in-Refused : goal.returns-in-Refused
 returns-in-Refused c =
     print_no _ _ c.args.out.now _ _ c.measure.ensures c.in-Refused.is

@@ -7,7 +7,7 @@ use lib.ListN.{length}
 use Rattle.table.proofs.Reading.{symbol_in, integer_in, binding_in, list_in}
 use Rattle.records.proofs.Heads.{payload_size}
 use Rattle.printer.specs.PrivateWriting.{line}
-use Rattle.printer.proofs.CheckedRecords.{bad_found, symbol_found, integer_found, binding_found, list_found, Named, symbol_named, list_small}
+use Rattle.printer.proofs.CheckedRecords.{bad_found, symbol_found, integer_found, binding_found, list_found, Named, symbol_named}
 use Rattle.printer.proofs.ListTexts.{flatly, line_symbol, line_integer, line_binding, line_list}
 use Rattle.printer.proofs.LayoutBounds.{right_line}
 use Rattle.printer.proofs.ListWriting.{atom_written, binding_size, binding_written, filling_begin, filling_is, filling_item, filling_step, end_size, filling_end}
@@ -35,9 +35,6 @@ overflow_add-result t c = omega (arith, symbol_in _ _ _ _ c.record_at-node.ensur
 pub put_integer-n-requires : goal.put_integer-n-requires
 put_integer-n-requires t c = omega (arith, integer_in _ _ _ c.record_at-node.ensures c.in-Integer.is, c.requires)
 
-pub overflow_add-result-in-Integer : goal.overflow_add-result-in-Integer
-overflow_add-result-in-Integer t c = omega (arith, integer_in _ _ _ c.record_at-node.ensures c.in-Integer.is, c.requires)
-
 pub put_name-k-requires : goal.put_name-k-requires
 put_name-k-requires t c =
     let b = binding_in _ _ _ _ c.record_at-node.ensures c.in-Binding.is in
@@ -49,12 +46,6 @@ overflow_add-at t c = omega (arith, binding_in _ _ _ _ c.record_at-node.ensures 
 
 pub overflow_sub-depth : goal.overflow_sub-depth
 overflow_sub-depth t c = (binding_found _ _ _ _ c.requires.3 c.record_at-node.ensures _ c.in-Binding.is).deeper
-
-pub slice_bounds-print_flat-count : goal.slice_bounds-print_flat-count
-slice_bounds-print_flat-count t c = c.least-rest.ensures.0
-
-pub slice_bounds-print_flat-start : goal.slice_bounds-print_flat-start
-slice_bounds-print_flat-start t c = c.least-rest.ensures.0
 
 pub print_flat-tree-requires : goal.print_flat-tree-requires
 print_flat-tree-requires t c =
@@ -71,9 +62,6 @@ overflow_add-result-in-Binding t c =
     let e = binding_size line line _ _ _ _ (line_binding _) h _ c.put_name-k.ensures.0 in
     omega (arith, e, c.print_flat-tree.ensures.1.0, right_line c.args.t.now c.args.depth c.args.at (λ i. (c.type_inv.t i).fits) r.0 r.2 r.3, r.1)
 
-pub overflow_add-p : goal.overflow_add-p
-overflow_add-p t c = omega (arith, list_in _ _ _ _ c.record_at-node.ensures c.in-List.is, c.requires)
-
 pub loop-i-init : goal.loop-i-init
 loop-i-init t c =
     let r = c.requires in
@@ -82,25 +70,10 @@ loop-i-init t c =
     filling_begin c.args.t.now c.args.at c.args.depth _ flatly 0 line (line_list _) _ _ h
     (omega (arith, right_line c.args.t.now c.args.depth c.args.at (λ i. (c.type_inv.t i).fits) r.0 r.2 r.3, r.1)) (omega (arith, r.0)) c.put_byte-w.ensures.0
 
-pub slice_bounds-put_unless-count : goal.slice_bounds-put_unless-count
-slice_bounds-put_unless-count t c = c.least-from.ensures.0
-
-pub slice_bounds-put_unless-start : goal.slice_bounds-put_unless-start
-slice_bounds-put_unless-start t c = c.least-from.ensures.0
-
 pub overflow_add-k : goal.overflow_add-k
 overflow_add-k t c =
     let v = c.loop-i.invariant in
     omega (arith, (filling_item v c.loop-i-test.true).room, v.small, spaced t (goal.at.overflow_add-k t c).After-put_unless)
-
-pub symbol_at-len-requires : goal.symbol_at-len-requires
-symbol_at-len-requires t c = omega (arith, c.loop-i.invariant.within, c.requires.1)
-
-pub slice_bounds-put_symbol-count : goal.slice_bounds-put_symbol-count
-slice_bounds-put_symbol-count t c = c.least-rest-in-loop-i.ensures.0
-
-pub slice_bounds-put_symbol-start : goal.slice_bounds-put_symbol-start
-slice_bounds-put_symbol-start t c = c.least-rest-in-loop-i.ensures.0
 
 pub put_symbol-requires : goal.put_symbol-requires
 put_symbol-requires t c = let n = named t (goal.at.put_symbol-requires t c).Then-len-gt0 in (n.0, n.1)
@@ -115,15 +88,6 @@ overflow_add-w t c =
 pub overflow_add-p-then-len-gt0 : goal.overflow_add-p-then-len-gt0
 overflow_add-p-then-len-gt0 t c = omega (arith, (named t (goal.at.overflow_add-p-then-len-gt0 t c).Then-len-gt0).1, c.requires)
 
-pub overflow_sub-depth-else-len-gt0 : goal.overflow_sub-depth-else-len-gt0
-overflow_sub-depth-else-len-gt0 t c = c.loop-i.invariant.deeper
-
-pub slice_bounds-print_flat-count-else-len-gt0 : goal.slice_bounds-print_flat-count-else-len-gt0
-slice_bounds-print_flat-count-else-len-gt0 t c = c.least-rest-in-loop-i.ensures.0
-
-pub slice_bounds-print_flat-start-else-len-gt0 : goal.slice_bounds-print_flat-start-else-len-gt0
-slice_bounds-print_flat-start-else-len-gt0 t c = c.least-rest-in-loop-i.ensures.0
-
 pub print_flat-item-requires : goal.print_flat-item-requires
 print_flat-item-requires t c =
     let v = c.loop-i.invariant in
@@ -134,12 +98,6 @@ pub overflow_add-w-else-len-gt0 : goal.overflow_add-w-else-len-gt0
 overflow_add-w-else-len-gt0 t c =
     let v = c.loop-i.invariant in
     omega (arith, (filling_item v c.loop-i-test.true).room, v.small, c.print_flat-item.ensures.1.0, spaced t (goal.at.overflow_add-w-else-len-gt0 t c).After-put_unless)
-
-pub overflow_add-i : goal.overflow_add-i
-overflow_add-i t c = omega (arith, c.loop-i-test.true, list_small _ _ _ _ (λ i. (c.type_inv.t i).fits) c.record_at-node.ensures c.in-List.is)
-
-pub loop-i-smaller : goal.loop-i-smaller
-loop-i-smaller t c = omega (arith, c.loop-i-test.true)
 
 pub loop-i-preserved : goal.loop-i-preserved
 loop-i-preserved t c =
@@ -155,12 +113,6 @@ loop-i-preserved t c =
       | else-len-gt0 w ↦
           filling_is (filling_step v l _ _ _ _ _ c.put_unless.new.out w.print_flat-item.new.out _ e g refl (omega arith) c.least-rest-in-loop-i.ensures.1 w.print_flat-item.ensures (omega arith)) _ _ _ w.out-is w.w-is w.p-is
     ]
-
-pub slice_bounds-put_byte-count : goal.slice_bounds-put_byte-count
-slice_bounds-put_byte-count t c = c.least-rest-in-List.ensures.0
-
-pub slice_bounds-put_byte-start : goal.slice_bounds-put_byte-start
-slice_bounds-put_byte-start t c = c.least-rest-in-List.ensures.0
 
 pub overflow_add-result-in-List : goal.overflow_add-result-in-List
 overflow_add-result-in-List t c =

@@ -2,17 +2,7 @@
 use mathlib.Core.List.{◌∷◌, []}
 use Rattle.printer.specs.Layout.{bytes, nl}
 use Rattle.lists.proofs.Rooms.{puts_both}
-use Rattle.printer.proofs.ShortRooms.{break_size}
-use Prim.Native.Nat.{◌*◌}
-use native.Mathlib.Omega.{arith}
 use Rattle.printer.proofs.gaps.put_close.Goals as goal
-
-pub returns-then-empty : goal.returns-then-empty
-returns-then-empty c = rw c.if-empty.true c.put_byte.ensures
-
-pub overflow_add-result : goal.overflow_add-result
-overflow_add-result c =
-    omega (arith, c.put_byte-k.ensures.0, c.nl-n.ensures.0, break_size (4 * c.args.indent))
 
 pub returns : goal.returns
 returns c =

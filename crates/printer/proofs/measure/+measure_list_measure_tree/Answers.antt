@@ -10,7 +10,7 @@ use Rattle.table.specs.declared.Step.TheVariants as step
 use Rattle.table.proofs.Steps.{step_in, symbol_from}
 use Rattle.table.proofs.Walks.{got_name, small, list_few}
 use Rattle.printer.specs.Layout.{Wrap}
-use Rattle.printer.proofs.LayoutBounds.{nl_len_le, inner_le, item_column_within}
+use Rattle.printer.proofs.LayoutBounds.{inner_le, item_column_within}
 use Rattle.printer.proofs.MeasuringWalk.{laid_tree, at_fault, at_symbol, at_integer, binding_stop, binding_good, at_line, kind_line, empty_test, no_line, at_list}
 use Rattle.printer.proofs.MeasuringWalk.{laying_begin, laying_name, laying_tree, laying_stop, laying_end, breaks_fit}
 use Rattle.printer.proofs.measure.+measure_list_measure_tree.Goals as goal
@@ -40,23 +40,8 @@ measure-list-treed t c =
 measure-list-breaks : (t : ℕ) (c : measure_list-After-nl_len t) → (c.args.n - 1) * c.nl_len.result ≤ (c.args.n - 1) * 257
 measure-list-breaks t c = let s = c in breaks_fit (s.args.n - 1) c.nl_len.result (s.args.indent + 1) (omega (arith, s.requires.2)) c.nl_len.ensures
 
-pub measure_list-overflow_add-p : goal.measure_list-overflow_add-p
-measure_list-overflow_add-p t c = omega (arith, c.requires.0, c.requires.1)
-
-pub measure_list-overflow_add-cost : goal.measure_list-overflow_add-cost
-measure_list-overflow_add-cost t c = omega (arith, c.requires.5)
-
-pub measure_list-nl_len-len-requires : goal.measure_list-nl_len-len-requires
-measure_list-nl_len-len-requires t c = omega (arith, c.requires.2)
-
-pub measure_list-overflow_add-len : goal.measure_list-overflow_add-len
-measure_list-overflow_add-len t c = omega (arith, nl_len_le c.args.indent c.nl_len-len.result (omega (arith, c.requires.2)) c.nl_len-len.ensures)
-
 pub measure_list-loop-i-init : goal.measure_list-loop-i-init
 measure_list-loop-i-init t c = let h = c.requires in laying_begin _ _ _ _ _ _ _ _ h.0 (omega (arith, h.2)) c.nl_len-len.ensures
-
-pub measure_list-overflow_sub-k : goal.measure_list-overflow_sub-k
-measure_list-overflow_sub-k t c = omega (arith, measure-list-past t c)
 
 pub measure_list-overflow_sub-k-then-p-q : goal.measure_list-overflow_sub-k-then-p-q
 measure_list-overflow_sub-k-then-p-q t c = omega (arith, (got_name _ 0 _ _ c.past_symbol-q.ensures (measure-list-past t c)).0)
@@ -66,15 +51,6 @@ measure_list-overflow_add-cost-then-p-q t c = omega (arith, (measure-list-named 
 
 pub measure_list-overflow_add-len-then-p-q : goal.measure_list-overflow_add-len-then-p-q
 measure_list-overflow_add-len-then-p-q t c = omega (arith, (measure-list-named t c).1)
-
-pub measure_list-item_indent-requires : goal.measure_list-item_indent-requires
-measure_list-item_indent-requires t c = omega (arith, c.requires.2)
-
-pub measure_list-overflow_add-column : goal.measure_list-overflow_add-column
-measure_list-overflow_add-column t c = omega (arith, c.requires)
-
-pub measure_list-item_column-requires : goal.measure_list-item_column-requires
-measure_list-item_column-requires t c = omega (arith, c.requires.2)
 
 pub measure_list-measure_tree-m-requires : goal.measure_list-measure_tree-m-requires
 measure_list-measure_tree-m-requires t c =
@@ -104,21 +80,6 @@ measure_list-loop-i-preserved t c =
           laying_tree _ _ _ _ _ _ _ _ _ _ _ _ l.invariant lt _ _ _ _ _ _ _ v.item_indent.ensures v.item_column.ensures v.measure_tree-m.ensures v.if-m-gt0.false v.p-is v.cost-is (v.wrong-is ∙ v.earlier-wrong.ensures) v.len-is
     ]
 
-pub measure_list-overflow_sub-breaks : goal.measure_list-overflow_sub-breaks
-measure_list-overflow_sub-breaks t c = omega (arith, c.requires.4)
-
-pub measure_list-overflow_add-indent : goal.measure_list-overflow_add-indent
-measure_list-overflow_add-indent t c = omega (arith, c.requires.2)
-
-pub measure_list-nl_len-requires : goal.measure_list-nl_len-requires
-measure_list-nl_len-requires t c = omega (arith, c.requires.2)
-
-pub measure_list-overflow_mul-breaks : goal.measure_list-overflow_mul-breaks
-measure_list-overflow_mul-breaks t c = omega (arith, measure-list-breaks t c, c.requires.5)
-
-pub measure_list-overflow_add-laid : goal.measure_list-overflow_add-laid
-measure_list-overflow_add-laid t c = let g = c.loop-i.invariant in omega (arith, measure-list-breaks t c, g.bound, g.walk.within, c.requires)
-
 pub measure_list-returns : goal.measure_list-returns
 measure_list-returns t c =
     let l = c.loop-i in
@@ -137,9 +98,6 @@ measure-tree-bound t c =
     let g = small _ _ _ _ _ _ (omega (arith, h.0, n.0, n.1)) y.got in
     (omega (arith, g.bound, g.within, h.0, h.1, n.1), omega (arith, y.bound, g.within, h.0, h.1, n.1))
 
-pub measure_tree-measure_line-requires : goal.measure_tree-measure_line-requires
-measure_tree-measure_line-requires t c = let h = c.requires in (h.0, h.1)
-
 pub measure_tree-returns-then-is_list-fits_in : goal.measure_tree-returns-then-is_list-fits_in
 measure_tree-returns-then-is_list-fits_in t c =
     kind_line _ c.args.depth _ c.args.width c.args.indent c.args.column _ _ _ _ c.requires.0 c.kind_at-is_list.ensures c.stored_cost.ensures c.fits_in.ensures c.if-is_list-fits_in.true c.measure_line.ensures
@@ -150,17 +108,8 @@ measure_tree-overflow_add-at t c = omega (arith, step_in _ c.args.depth _ _ (ste
 pub measure_tree-overflow_sub-len : goal.measure_tree-overflow_sub-len
 measure_tree-overflow_sub-len t c = omega (arith, step_in _ c.args.depth _ _ (step.Symbol _) c.step_at-step.ensures c.in-Symbol.is)
 
-pub measure_tree-overflow_add-at-in-Integer : goal.measure_tree-overflow_add-at-in-Integer
-measure_tree-overflow_add-at-in-Integer t c = omega (arith, step_in _ c.args.depth _ _ step.Integer c.step_at-step.ensures c.in-Integer.is)
-
-pub measure_tree-overflow_add-at-in-Integer-2 : goal.measure_tree-overflow_add-at-in-Integer-2
-measure_tree-overflow_add-at-in-Integer-2 t c = omega (arith, step_in _ c.args.depth _ _ step.Integer c.step_at-step.ensures c.in-Integer.is)
-
 pub measure_tree-overflow_sub-n : goal.measure_tree-overflow_sub-n
 measure_tree-overflow_sub-n t c = omega (arith, step_in _ c.args.depth _ _ (step.Binding _) c.step_at-step.ensures c.in-Binding.is)
-
-pub measure_tree-overflow_add-n : goal.measure_tree-overflow_add-n
-measure_tree-overflow_add-n t c = omega (arith, step_in _ c.args.depth _ _ (step.Binding _) c.step_at-step.ensures c.in-Binding.is)
 
 pub measure_tree-overflow_add-at-in-Binding : goal.measure_tree-overflow_add-at-in-Binding
 measure_tree-overflow_add-at-in-Binding t c = omega (arith, step_in _ c.args.depth _ _ (step.Binding _) c.step_at-step.ensures c.in-Binding.is)
@@ -185,9 +134,6 @@ measure_tree-overflow_add-cost t c = omega (arith, (measure-tree-bound t (goal.a
 
 pub measure_tree-overflow_add-laid : goal.measure_tree-overflow_add-laid
 measure_tree-overflow_add-laid t c = omega (arith, (measure-tree-bound t (goal.at.measure_tree-overflow_add-laid t c).Else-m-gt0).1)
-
-pub measure_tree-measure_line-requires-then-n-eq0 : goal.measure_tree-measure_line-requires-then-n-eq0
-measure_tree-measure_line-requires-then-n-eq0 t c = let h = c.requires in (h.0, h.1)
 
 pub measure_tree-returns-then-n-eq0 : goal.measure_tree-returns-then-n-eq0
 measure_tree-returns-then-n-eq0 t c =

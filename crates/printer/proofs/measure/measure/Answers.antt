@@ -1,7 +1,6 @@
 -- `printer::measure::measure`: the trees done, what they take and the place of their first wrong cost, before those that are left. The measure is the bytes left.
 use Prim.Native.Nat.{◌+◌, ◌<◌}
 use native.Mathlib.Omega.{arith}
-use lib.Dec.{lit≤}
 use Rattle.table.proofs.Steps.{too_long_lem}
 use Rattle.printer.proofs.MeasuringWalk.{Paged, summed_no, paged_begin, lead_some, lead_none, paged_tree, paged_stop, paged_wrong, paged_end}
 use Rattle.printer.proofs.measure.measure.Goals as goal
@@ -26,24 +25,15 @@ returns-then-t-gt-TABLE_LIMIT c = summed_no _ _ _ _ _ (too_long_lem _ c.if-t-gt-
 pub loop-p-init : goal.loop-p-init
 loop-p-init c = paged_begin _ _ c.if-t-gt-TABLE_LIMIT.false
 
-pub measure_tree-m-requires : goal.measure_tree-m-requires
-measure_tree-m-requires c = let g = c.loop-p.invariant.checks.read in (g.within, g.limit, lit≤ tt, omega arith)
-
 pub returns-then-m-gt0 : goal.returns-then-m-gt0
 returns-then-m-gt0 c =
     paged_stop _ _ _ _ _ c.loop-p.invariant _ _ c.loop-p-test.true c.measure_tree-m.ensures c.if-m-gt0.true c.refused-then-m-gt0.ensures
-
-pub overflow_add-w : goal.overflow_add-w
-overflow_add-w c = let g = c.loop-p.invariant in omega (arith, g.size, g.checks.read.within, g.checks.read.limit)
 
 pub overflow_add-w-in-loop-p : goal.overflow_add-w-in-loop-p
 overflow_add-w-in-loop-p c = let g = (on (goal.at.overflow_add-w-in-loop-p c).Joined-p-gt0).1 in omega (arith, g.size, g.checks.read.within, g.checks.read.limit)
 
 pub overflow_add-w-in-loop-p-2 : goal.overflow_add-w-in-loop-p-2
 overflow_add-w-in-loop-p-2 c = let g = (on (goal.at.overflow_add-w-in-loop-p-2 c).Joined-p-gt0).1 in omega (arith, g.size, g.checks.read.within, g.checks.read.limit)
-
-pub loop-p-smaller : goal.loop-p-smaller
-loop-p-smaller c = omega (arith, (on (goal.at.loop-p-smaller c).Joined-p-gt0).0, c.loop-p-test.true)
 
 pub loop-p-preserved : goal.loop-p-preserved
 loop-p-preserved c = (on (goal.at.loop-p-preserved c).Joined-p-gt0).1

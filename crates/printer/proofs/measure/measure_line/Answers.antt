@@ -1,11 +1,8 @@
 -- `printer::measure::measure_line`: what the walk counts on a single line.
 use mathlib.Core.Path.{refl}
 use native.Mathlib.Omega.{arith}
-use Rattle.printer.proofs.MeasuringWalk.{straight_stop, straight, straight_small}
+use Rattle.printer.proofs.MeasuringWalk.{straight, straight_small}
 use Rattle.printer.proofs.measure.measure_line.Goals as goal
-
-pub returns-then-x-gt0 : goal.returns-then-x-gt0
-returns-then-x-gt0 c = straight_stop _ _ _ _ _ c.walk_tree-x.ensures c.if-x-gt0.true c.stopped.ensures
 
 pub overflow_add-len : goal.overflow_add-len
 overflow_add-len c =
