@@ -8,7 +8,7 @@ use Rattle.refusals.specs.Numbers.{source_limit}
 use Rattle.refusals.specs.Result.{ok}
 use Rattle.classes.specs.Classes.{class_of, semicolon}
 use Rattle.lexer.specs.Streams.{Series, ends, then, tokens_of}
-use Rattle.lexer.specs.BareTokens.{Bare, close_paren_lem, bare_tokens}
+use Rattle.lexer.specs.BareTokens.{Bare, close_paren, bare_tokens}
 use Rattle.table.specs.Trees.{Tree, Trees, symbol, integer, binding, list, none, more, is_symbol, tree_tokens, trees_tokens}
 use Rattle.printer.specs.Layout.{Wrapping, Wrap, SingleLine, bytes, column, gap, inner, back, wrapped, named, lay, items, page_from, page}
 use Rattle.lists.proofs.Choice.{true_false}
@@ -80,14 +80,14 @@ module _ (s : List ℕ) (limit : length s ≤ source_limit) where
         gives_open s limit _ _ (clear_items xs v w i (c + 1) r h) (gives_items xs h true v w i (c + 1) y r g)
 
     gives_items : (xs : Trees) → Spellables xs → (first : Bool) (m : Wrapping) (w i c : ℕ) (y : Series Bare) (r : List ℕ) → Gives s y r
-        → Gives s (trees_tokens xs (then close_paren_lem y)) (bytes (items xs first m w i c) ++ r)
+        → Gives s (trees_tokens xs (then close_paren y)) (bytes (items xs first m w i c) ++ r)
     gives_items none h first m w i c y r g =
-        subst (Gives s (then close_paren_lem y)) (sym (append_assoc (bytes (back first m i c)) (41 ∷ []) r)) (gives_back first m i c (41 ∷ r) _ (gives_close s limit r y g))
+        subst (Gives s (then close_paren y)) (sym (append_assoc (bytes (back first m i c)) (41 ∷ []) r)) (gives_back first m i c (41 ∷ r) _ (gives_close s limit r y g))
     gives_items (more x xs) h first m w i c y r g =
         let a = gap first m i c in
         let b = lay x m w (inner first m i) (column a) in
         let e = items xs false m w i (column b) in
-        subst (Gives s (trees_tokens (more x xs) (then close_paren_lem y))) (regroup (bytes a) (bytes b) (bytes e) r)
+        subst (Gives s (trees_tokens (more x xs) (then close_paren y))) (regroup (bytes a) (bytes b) (bytes e) r)
         (gives_gap first m i c _ _
         (gives_lay x h.0 m w (inner first m i) (column a) _ _ (sep_items xs m w i (column b) r) (gives_items xs h.1 false m w i (column b) y r g)))
 

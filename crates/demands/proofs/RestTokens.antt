@@ -21,7 +21,7 @@ use Rattle.lexer.specs.Tokens.{Kind, lparen, rparen, at_sign as at-token, symbol
 use Rattle.lexer.specs.Literals.{radix_of}
 use Rattle.lexer.specs.Lexing.{Between, skip, symbol_end, lex_in, next_token}
 use Rattle.lexer.specs.Streams.{Series, ends, then, onward, tokens_from}
-use Rattle.lexer.specs.BareTokens.{Bare, open_paren_lem, close_paren_lem, at_sign, name, number, bare_of, bare_tokens}
+use Rattle.lexer.specs.BareTokens.{Bare, open_paren, close_paren, at_sign, name, number, bare_of, bare_tokens}
 use Rattle.table.specs.Trees.{runs_on, is_symbol, InRange}
 use Rattle.demands.proofs.HeldTokens.{At, next}
 use Rattle.demands.proofs.IntegerTokens.{spelt}
@@ -137,11 +137,11 @@ module _ (s : List ℕ) (limit : length s ≤ source_limit) where
   pub gives_integer : (z : ℤ) (r : List ℕ) (y : Series Bare) → InRange z → Sep r → Gives s y r → Gives s (then (number z) y) (integer_text z ++ r)
   gives_integer z r y h k g = gives_token (int z) (integer_text z) r (number z) y (integer_low z) (λ p. integer_token z r p h k) (λ p e. refl) g
 
-  pub gives_open : (l : List ℕ) (y : Series Bare) → Clear l → Gives s y l → Gives s (then open_paren_lem y) (40 ∷ l)
-  gives_open l y h g = gives_token lparen (40 ∷ []) l open_paren_lem y (omega arith) (λ p. open_token l p h) (λ p e. refl) g
+  pub gives_open : (l : List ℕ) (y : Series Bare) → Clear l → Gives s y l → Gives s (then open_paren y) (40 ∷ l)
+  gives_open l y h g = gives_token lparen (40 ∷ []) l open_paren y (omega arith) (λ p. open_token l p h) (λ p e. refl) g
 
-  pub gives_close : (l : List ℕ) (y : Series Bare) → Gives s y l → Gives s (then close_paren_lem y) (41 ∷ l)
-  gives_close l y g = gives_token rparen (41 ∷ []) l close_paren_lem y (omega arith) (close_token l) (λ p e. refl) g
+  pub gives_close : (l : List ℕ) (y : Series Bare) → Gives s y l → Gives s (then close_paren y) (41 ∷ l)
+  gives_close l y g = gives_token rparen (41 ∷ []) l close_paren y (omega arith) (close_token l) (λ p e. refl) g
 
   pub gives_at : (l : List ℕ) (y : Series Bare) → Gives s y l → Gives s (then at_sign y) (64 ∷ l)
   gives_at l y g = gives_token at-token (64 ∷ []) l at_sign y (omega arith) (at_token_is l) (λ p e. refl) g

@@ -1,4 +1,4 @@
--- How little the promises leave open: of each public function, two results (and two lent memories) that meet its promise are equal: THEOREM one-answer.
+-- How little the promises leave open: of each public function, two results (and two lent memories) that meet its promise are equal: THEOREM one_answer.
 -- A promise is the function's own contract (`Post`), as the prover reads it off the source: a clause that is lost there is lost here.
 use Rattle.std.specs.Prelude.{ℕ, ◌^◌, ◌<◌, ◌≡◌, List}
 use Rattle.wide.specs.declared.Wide.{Wide}

@@ -68,7 +68,7 @@ pub record Rules : Type 0 where
   -- 'feeding then, an empty piece too, is refused 19, consumes nothing, and the state stays'; its place: 'bytes consumed so far', see `consumed`
   pub fed_after_close_lem : (s : State) (q : List ℕ) → Unrefused (close_of s).reply → feed_of (close_of s).state q ≡ fed (refused fed_after_close s.place) 0 (close_of s).state
   -- 'The first close answers the held token'
-  pub close_paren_lem : (st p : ℕ) → close_of (live (Opener st) p) ≡ fed (ok (ready (token lparen st 1))) 0 (closed p)
+  pub close_paren : (st p : ℕ) → close_of (live (Opener st) p) ≡ fed (ok (ready (token lparen st 1))) 0 (closed p)
   pub close_symbol : (st p : ℕ) → close_of (live (Symbol st) p) ≡ fed (ok (ready (token symbol st (p - st)))) 0 (closed p)
   -- 'or the refusal of a held literal'
   pub close_sign : (st p : ℕ) → close_of (live (Sign st) p) ≡ fed (refused no_digits st) 0 (dead no_digits st p)

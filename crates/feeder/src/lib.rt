@@ -8,7 +8,7 @@ mod runs;
 
 ghost use Rattle.std.specs.Prelude.{◌≡◌};
 ghost use Rattle.lexer.specs.Tokens.{answer_of};
-ghost use Rattle.feeder.specs.Machine.{closing as closingOf};
+ghost use Rattle.feeder.specs.Machine.{closing as closing_of};
 ghost use Rattle.feeder.specs.Feeding.{feed_of, close_of, fed_of, fresh_state, shut};
 
 use lexer::literal::Reading;
@@ -110,7 +110,7 @@ fn answered(answer: Answer, used: usize, state: State) -> Fed
 
 // What the source's end makes of a mode.
 fn closing(mode: Mode, place: usize) -> Lexed
-    ensures { answer_of result ≡ closingOf mode place }
+    ensures { answer_of result ≡ closing_of mode place }
 {
     match mode {
         Mode::Blank => Lexed::End,

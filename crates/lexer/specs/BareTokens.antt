@@ -4,13 +4,13 @@ use Rattle.lexer.specs.Tokens.{Kind, lparen, rparen, at_sign as at-token, symbol
 use Rattle.lexer.specs.Streams.{Series, ends, then, Stream}
 
 pub data Bare : Type 0 where
-  open_paren_lem close_paren_lem at_sign : Bare
+  open_paren close_paren at_sign : Bare
   name : List ℕ → Bare
   number : ℤ → Bare
 
 abbrev pub bare_of : List ℕ → ℕ → ℕ → Kind → Bare
-bare_of s st n lparen = open_paren_lem
-bare_of s st n rparen = close_paren_lem
+bare_of s st n lparen = open_paren
+bare_of s st n rparen = close_paren
 bare_of s st n at-token = at_sign
 bare_of s st n symbol = name (take n (drop st s))
 bare_of s st n (int z) = number z

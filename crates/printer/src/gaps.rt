@@ -1,7 +1,7 @@
 // What stands before an item of a list that is wrapped, and before its closing parenthesis; and where the item then is.
 ghost use Rattle.std.specs.Prelude.{◌≡◌, ◌+◌, ◌≤◌};
 ghost use Rattle.refusals.specs.Numbers.{depth_limit};
-ghost use Rattle.printer.specs.Layout.{Wrap, bytes, column as columnOf, gap, inner};
+ghost use Rattle.printer.specs.Layout.{Wrap, bytes, column as column_of, gap, inner};
 ghost use Rattle.lists.specs.Rooms.{Puts};
 ghost use Rattle.printer.specs.PrivateWriting.{closing};
 
@@ -21,7 +21,7 @@ pub fn item_indent(first: bool, indent: usize) -> usize
 // The column of an item; the parenthesis before the first leaves `column`.
 pub fn item_column(first: bool, indent: usize, column: usize) -> usize
     requires { indent ≤ depth_limit }
-    ensures { result ≡ columnOf (gap first Wrap indent column) }
+    ensures { result ≡ column_of (gap first Wrap indent column) }
 {
     if first {
         return column;

@@ -1,7 +1,7 @@
 // A room that may be too short: what is put there is there only if it fits, and its length is known all the same.
 ghost use Rattle.std.specs.Prelude.{◌≡◌, cond, ◌∷◌, [], ◌≤◌, length};
 ghost use Rattle.refusals.specs.Numbers.{depth_limit};
-ghost use Rattle.printer.specs.Layout.{bytes, nl as nlOf};
+ghost use Rattle.printer.specs.Layout.{bytes, nl as nl_of};
 ghost use Rattle.lists.specs.Rooms.{Puts};
 
 pub fn put_byte(b: u8, out: &mut [u8]) -> usize
@@ -26,14 +26,14 @@ pub fn put_unless(none: bool, b: u8, out: &mut [u8]) -> usize
 // The bytes of a line break: LF, and 4 spaces for each indent.
 pub fn nl_len(indent: usize) -> usize
     requires { indent ≤ depth_limit }
-    ensures { result ≡ length (bytes (nlOf indent)) }
+    ensures { result ≡ length (bytes (nl_of indent)) }
 {
     4 * indent + 1
 }
 
 pub fn nl(indent: usize, out: &mut [u8]) -> usize
     requires { indent ≤ depth_limit }
-    ensures { Puts (bytes (nlOf indent)) result out.old out.new }
+    ensures { Puts (bytes (nl_of indent)) result out.old out.new }
 {
     let n = nl_len(indent);
     if out.len() < n {

@@ -9,7 +9,7 @@ use Rattle.refusals.specs.Result.{Result, ok, refused, and_then}
 use Rattle.lexer.specs.Tokens.{Kind, lparen, rparen, at_sign, symbol, int, Token, Answer, end, is}
 use Rattle.lexer.specs.Lexing.{next_token}
 use Rattle.lexer.specs.Streams.{Series, ends, then}
-use Rattle.lexer.specs.BareTokens.{Bare, open_paren_lem, close_paren_lem, at_sign as bare-at, name, number, bare_of}
+use Rattle.lexer.specs.BareTokens.{Bare, open_paren, close_paren, at_sign as bare-at, name, number, bare_of}
 use Rattle.lexer.proofs.Skips.{NoSignKind, NoSign}
 use Rattle.table.specs.Trees.{Tree, Trees, symbol as symbol_tree, integer, binding, list, none, more, tree_tokens, trees_tokens, Good, Goods}
 use Rattle.reader.specs.Promised.{ReadAccepts}
@@ -40,8 +40,8 @@ mutual
 
 -- an `@` is not said first: behind a symbol it would make a binding of it
 abbrev NotAt : Bare → Type 0
-NotAt open_paren_lem = Unit {0}
-NotAt close_paren_lem = Unit {0}
+NotAt open_paren = Unit {0}
+NotAt close_paren = Unit {0}
 NotAt bare-at = ⊥
 NotAt (name n) = Unit {0}
 NotAt (number z) = Unit {0}
@@ -91,8 +91,8 @@ ended_heard s (ok (is t)) h e =
 
 -- the kind that an item has, and a symbol's bytes
 abbrev KindOf : Bare → Kind → List ℕ → Type 0
-KindOf open_paren_lem k m = k ≡ lparen
-KindOf close_paren_lem k m = k ≡ rparen
+KindOf open_paren k m = k ≡ lparen
+KindOf close_paren k m = k ≡ rparen
 KindOf bare-at k m = k ≡ at_sign
 KindOf (name n) k m = (k ≡ symbol) × (m ≡ n)
 KindOf (number z) k m = k ≡ int z
@@ -161,10 +161,10 @@ record AcceptedAll (s : List ℕ) (d j : ℕ) (a : Answer) (xs : Trees) (k : Ser
   rest : heard s next ≡ k
 
 closed_list : (s : List ℕ) (d : ℕ) (t : Token) (xs : Trees) (k : Series Bare) → t.kind ≡ lparen → 0 < d
-    → AcceptedAll s (d - 1) (length s) (after s t) xs (then close_paren_lem k) → Accepted s d (ok (is t)) (list xs) k
+    → AcceptedAll s (d - 1) (length s) (after s t) xs (then close_paren k) → Accepted s d (ok (is t)) (list xs) k
 unfolding read_items
 closed_list s d t xs k e h w =
-    let c = hears s w.next close_paren_lem k w.lexes w.rest in
+    let c = hears s w.next close_paren k w.lexes w.rest in
     let u = c.token in
     let last : read_items (read_tree s (d - 1)) (suc w.left) w.next ≡ ok (up_to none u) =
     ap (λ (y : Result One). and_then y (onward (read_items (read_tree s (d - 1)) w.left)))
@@ -203,9 +203,9 @@ mutual
         rest = r.rest;
       }
   accept (list xs) s d a k g f h e =
-      let c = hears s a open_paren_lem (trees_tokens xs (then close_paren_lem k)) h e in
+      let c = hears s a open_paren (trees_tokens xs (then close_paren k)) h e in
       let t = c.token in
-      let w = accept_all xs s (d - 1) (length s) (after s t) (then close_paren_lem k) g.1 tt (next_of s t) (omega arith) c.rest in
+      let w = accept_all xs s (d - 1) (length s) (after s t) (then close_paren k) g.1 tt (next_of s t) (omega arith) c.rest in
       let r = closed_list s d t xs k (heard_kind c) g.0 w in
       record { next = r.next; reads = ap (read_tree s d) c.is_it ∙ r.reads; rest = r.rest }
 

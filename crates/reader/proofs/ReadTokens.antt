@@ -9,7 +9,7 @@ use Rattle.refusals.specs.Result.{ok, refused}
 use Rattle.lexer.specs.Tokens.{Kind, lparen, rparen, at_sign, symbol, int, Token, past, Answer, end, is}
 use Rattle.lexer.specs.Lexing.{next_token}
 use Rattle.lexer.specs.Streams.{Series, ends, then, onward, tokens_from, tokens_of}
-use Rattle.lexer.specs.BareTokens.{Bare, open_paren_lem, close_paren_lem, at_sign as bare-at, name, number, bare_of, bare_tokens}
+use Rattle.lexer.specs.BareTokens.{Bare, open_paren, close_paren, at_sign as bare-at, name, number, bare_of, bare_tokens}
 use Rattle.table.specs.Trees.{Tree, Trees, symbol as symbol_tree, integer, binding, list, none, more, tree_tokens, trees_tokens}
 use Rattle.reader.specs.Promised.{ReadTokens}
 use Rattle.reader.specs.Grammar.{after}
@@ -93,8 +93,8 @@ mutual
   tree_heard (list xs) s d a b h w =
       let q = spans_all xs s (d - 1) (after s w.0) (ok (is w.1)) (next_of s w.0) w.5 in
       ap (heard s) w.2 ∙ kind_heard s w.0 lparen (subst (Lexes s) w.2 h) w.3
-      ∙ ap (then open_paren_lem) (trees_heard xs s (d - 1) (after s w.0) (ok (is w.1)) (next_of s w.0) w.5
-      ∙ ap (trees_tokens xs) (kind_heard s w.1 rparen q.lexes w.6 ∙ ap (λ (c : Answer). then close_paren_lem (heard s c)) (sym w.7)))
+      ∙ ap (then open_paren) (trees_heard xs s (d - 1) (after s w.0) (ok (is w.1)) (next_of s w.0) w.5
+      ∙ ap (trees_tokens xs) (kind_heard s w.1 rparen q.lexes w.6 ∙ ap (λ (c : Answer). then close_paren (heard s c)) (sym w.7)))
 
   trees_heard : (xs : Trees) (s : List ℕ) (d : ℕ) (a b : Answer) → Lexes s a → DerivesAll xs s d a b → heard s a ≡ trees_tokens xs (heard s b)
   trees_heard none s d a b h w = ap (heard s) w

@@ -1,4 +1,4 @@
--- What holds of settings files over the whole crate (document 02, 5/12): THEOREMS good_sound, good_complete, fault_placed, copy_good, written_project, written_house, others_project, others_house, width_written, width_behind, style_written, style_behind, write-same, skipped.
+-- What holds of settings files over the whole crate (document 02, 5/12): THEOREMS good_sound, good_complete, fault_placed, copy_good, written_project, written_house, others_project, others_house, width_written, width_behind, style_written, style_behind, write_same, skipped.
 use Rattle.std.specs.Prelude.{ℕ, ◌-◌, ◌^◌, ◌≤◌, ◌<◌, ◌≡◌, Bool, true, false, cond, ◌⊎◌, List, [], ◌∷◌, ltb, length, take}
 use Rattle.refusals.specs.Numbers.{settings_limit, too_long, bad_settings}
 use Rattle.refusals.specs.Result.{ok, refused}

@@ -6,7 +6,7 @@ use Rattle.wide.specs.Text.{integer_text}
 use Rattle.records.specs.Records.{head_len, record_of}
 use Rattle.table.specs.Kinds.{symbol_kind, integer_kind, binding_kind, list_kind}
 use Rattle.lexer.specs.Streams.{Series, then}
-use Rattle.lexer.specs.BareTokens.{Bare, open_paren_lem, close_paren_lem, at_sign, name, number}
+use Rattle.lexer.specs.BareTokens.{Bare, open_paren, close_paren, at_sign, name, number}
 
 -- a tree is a symbol, an integer, a symbol then `@` then a tree, or `(` trees `)`; a file is any number of trees
 mutual
@@ -30,7 +30,7 @@ unfoldable mutual
   tree_tokens (symbol n) k = then (name n) k
   tree_tokens (integer z) k = then (number z) k
   tree_tokens (binding n x) k = then (name n) (then at_sign (tree_tokens x k))
-  tree_tokens (list xs) k = then open_paren_lem (trees_tokens xs (then close_paren_lem k))
+  tree_tokens (list xs) k = then open_paren (trees_tokens xs (then close_paren k))
 
   pub trees_tokens : Trees → Series Bare → Series Bare
   trees_tokens none k = k

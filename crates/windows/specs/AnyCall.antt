@@ -1,4 +1,4 @@
--- A call on any table, width, state and window (document 02, 2/12): THEOREMS given_within, no-room, end-stays, refused_at_first, never_room.
+-- A call on any table, width, state and window (document 02, 2/12): THEOREMS given_within, no_room, end_stays, refused_at_first, never_room.
 use Rattle.std.specs.Prelude.{◌≡◌, ℕ, ◌≤◌, true, List, length, drop, ◌≢◌}
 use Rattle.refusals.specs.Numbers.{print_room}
 use Rattle.refusals.specs.Result.{ok, refused}

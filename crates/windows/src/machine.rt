@@ -3,7 +3,7 @@ ghost use Rattle.std.specs.Prelude.{◌≡◌, ◌+◌, ◌-◌, ◌<◌, false,
 ghost use Rattle.refusals.specs.Numbers.{depth_limit};
 ghost use Rattle.table.specs.Kinds.{list_len};
 ghost use Rattle.table.specs.Records.{record_at};
-ghost use Rattle.windows.specs.Machine.{Close, Node, Between, Done, state, is_done, is_fresh, broken as brokenOf, held as held_of, held_due, held_margin, moved as movedOf, after_phase, past as past_of, first_phase, test_for, mode_of, margin_for, plus as plusOf, opened as opened_of, list_next, node_next, taken as taken_of, gap_next, popped as poppedOf, begin as beginOf, next_of};
+ghost use Rattle.windows.specs.Machine.{Close, Node, Between, Done, state, is_done, is_fresh, broken as broken_of, held as held_of, held_due, held_margin, moved as moved_of, after_phase, past as past_of, first_phase, test_for, mode_of, margin_for, plus as plus_of, opened as opened_of, list_next, node_next, taken as taken_of, gap_next, popped as popped_of, begin as begin_of, next_of};
 
 use crate::{Cursor, Phase};
 use printer::cost;
@@ -53,7 +53,7 @@ pub fn first_phase(n: usize) -> Phase
 }
 
 fn moved(c: Cursor, phase: Phase, at: usize, left: usize) -> Cursor
-    ensures { result ≡ movedOf c phase at left }
+    ensures { result ≡ moved_of c phase at left }
 {
     Cursor {
         phase,
@@ -107,7 +107,7 @@ fn held_margin(x: u64) -> u8
 
 // The columns that a line break to an indent leaves.
 fn broken(width: u32, indent: u8) -> usize
-    ensures { result ≡ brokenOf width indent }
+    ensures { result ≡ broken_of width indent }
 {
     lists::less(width as usize + 1, cost::break_column(indent as usize))
 }
@@ -176,7 +176,7 @@ fn one_less(n: u32) -> u32
 
 // So many records more, in 32 bits.
 fn plus(looked: u32, more: usize) -> u32
-    ensures { result ≡ plusOf looked more }
+    ensures { result ≡ plus_of looked more }
 {
     std::num::wrapping_add_u32(looked, (more % 4294967296) as u32)
 }
@@ -263,7 +263,7 @@ fn gap_next(width: u32, c: Cursor) -> Cursor
 
 // The list around the innermost comes back from the stack.
 fn popped(c: Cursor, stack: &[u64]) -> Cursor
-    ensures { result ≡ poppedOf c stack.now }
+    ensures { result ≡ popped_of c stack.now }
 {
     let k = lists::less(c.depth, 1);
     let x = word_at(stack, k);
@@ -281,7 +281,7 @@ fn popped(c: Cursor, stack: &[u64]) -> Cursor
 }
 
 fn begin(c: Cursor, width: u32) -> Cursor
-    ensures { result ≡ beginOf c width }
+    ensures { result ≡ begin_of c width }
 {
     Cursor {
         phase: Phase::Node,
