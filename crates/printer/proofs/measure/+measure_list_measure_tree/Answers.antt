@@ -12,9 +12,9 @@ use Rattle.table.proofs.Walks.{got_name, small, list_few}
 use Rattle.printer.specs.Layout.{Wrap}
 use Rattle.printer.proofs.LayoutBounds.{inner_le, item_column_within}
 use Rattle.printer.proofs.MeasuringWalk.{laid_tree, at_fault, at_symbol, at_integer, binding_stop, binding_good, at_line, kind_line, empty_test, no_line, at_list}
-use Rattle.printer.proofs.MeasuringWalk.{laying_begin, laying_name, laying_tree, laying_stop, laying_end, breaks_fit}
+use Rattle.printer.proofs.MeasuringWalk.{laying_begin, laying_name, laying_tree, laying_stop, laying_end}
 use Rattle.printer.proofs.measure.+measure_list_measure_tree.Goals as goal
-use Rattle.printer.proofs.measure.+measure_list_measure_tree.Goals.{measure_list-then-p-q, measure_list-else-p-q+else-m-gt0, measure_list-After-nl_len, measure_list-Else-m-gt0, measure_list-Then-p-q, measure_tree-Else-m-gt0}
+use Rattle.printer.proofs.measure.+measure_list_measure_tree.Goals.{measure_list-then-p-q, measure_list-else-p-q+else-m-gt0, measure_list-Else-m-gt0, measure_list-Then-p-q, measure_tree-Else-m-gt0}
 
 -- at a symbol the place past it was told apart from its own
 measure-list-past : (t : ℕ) (c : measure_list-Then-p-q t) → c.loop-i.p < c.past_symbol-q.result
@@ -35,10 +35,6 @@ measure-list-treed t c =
     let h = c.requires in
     let g = laying_tree _ _ _ _ _ _ _ _ _ _ _ _ c.loop-i.invariant c.loop-i-test.true _ _ _ _ _ _ _ c.item_indent.ensures c.item_column.ensures c.measure_tree-m.ensures c.if-m-gt0.false refl refl refl refl in
     (omega (arith, g.walk.bound, g.walk.within, h.1, h.5), omega (arith, g.bound, g.walk.within, h.1))
-
--- nor do the line breaks
-measure-list-breaks : (t : ℕ) (c : measure_list-After-nl_len t) → (c.args.n - 1) * c.nl_len.result ≤ (c.args.n - 1) * 257
-measure-list-breaks t c = let s = c in breaks_fit (s.args.n - 1) c.nl_len.result (s.args.indent + 1) (omega (arith, s.requires.2)) c.nl_len.ensures
 
 pub measure_list-loop-i-init : goal.measure_list-loop-i-init
 measure_list-loop-i-init t c = let h = c.requires in laying_begin _ _ _ _ _ _ _ _ h.0 (omega (arith, h.2)) c.nl_len-len.ensures

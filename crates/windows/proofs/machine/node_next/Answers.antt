@@ -5,7 +5,7 @@ use Rattle.table.specs.Kinds.{integer_len}
 use Rattle.table.proofs.Reading.{symbol_in, binding_in, integer_in, list_in as list-within}
 use Rattle.printer.proofs.CheckedRecords.{list_small}
 use Rattle.table.proofs.Walks.{integer_value}
-use Rattle.windows.specs.Machine.{Sign, Cursor, state, moved, past, node_next}
+use Rattle.windows.specs.Machine.{Cursor, state, past, node_next}
 use Rattle.windows.proofs.machine.node_next.Goals as goal
 
 pub overflow_add-at : goal.overflow_add-at
@@ -32,17 +32,5 @@ overflow_cast-n c = let h = list_small _ _ _ _ (λ i. (c.type_inv.t i).fits) c.r
 pub list_next-requires : goal.list_next-requires
 list_next-requires c = let h = list-within _ _ _ _ c.record_at-node.ensures c.in-List.is in omega (arith, h)
 
-pub returns-in-Bad : goal.returns-in-Bad
-returns-in-Bad c = let a = c.args in let s = state a.c a.stack.now in ap (λ (y : Cursor). state y a.stack.now) c.moved.ensures ∙ ap (node_next a.t.now a.width s) (sym c.in-Bad.is ∙ c.record_at-node.ensures)
-
-pub returns-in-Symbol : goal.returns-in-Symbol
-returns-in-Symbol c = let a = c.args in let s = state a.c a.stack.now in ap (λ (y : Cursor). state y a.stack.now) (c.past.ensures ∙ ap (past a.c (a.c.at + c.in-Symbol.len)) c.less.ensures) ∙ ap (node_next a.t.now a.width s) (sym c.in-Symbol.is ∙ c.record_at-node.ensures)
-
 pub returns-in-Integer : goal.returns-in-Integer
 returns-in-Integer c = let a = c.args in let s = state a.c a.stack.now in ap (λ (y : Cursor). state y a.stack.now) (c.past-in-Integer.ensures ∙ ap (past a.c (a.c.at + integer_len)) (c.less-in-Integer.ensures ∙ ap (λ (k : ℕ). a.c.left - k) (c.text_len-n.ensures ∙ ap (λ (z : ℤ). length (integer_text z)) (integer_value a.t.now a.c.at _ (integer_in _ _ _ c.record_at-node.ensures c.in-Integer.is) c.wide_at.ensures)))) ∙ ap (node_next a.t.now a.width s) (sym c.in-Integer.is ∙ c.record_at-node.ensures)
-
-pub returns-in-Binding : goal.returns-in-Binding
-returns-in-Binding c = let a = c.args in let s = state a.c a.stack.now in ap (λ (y : Cursor). state y a.stack.now) (c.moved-in-Binding.ensures ∙ ap (moved a.c Sign (a.c.at + c.in-Binding.len)) c.less-in-Binding.ensures) ∙ ap (node_next a.t.now a.width s) (sym c.in-Binding.is ∙ c.record_at-node.ensures)
-
-pub returns-in-List : goal.returns-in-List
-returns-in-List c = let a = c.args in let s = state a.c a.stack.now in c.list_next.ensures ∙ ap (node_next a.t.now a.width s) (sym c.in-List.is ∙ c.record_at-node.ensures)
