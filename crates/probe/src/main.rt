@@ -133,15 +133,20 @@ fn turn(
     table: &mut [u8],
     text: &mut [u8],
 ) -> io::Result<After> {
-    match next_frame(from, room)? {
-        Next::Is(f) => {
+    match next_frame(from, room) {
+        Ok(Next::Is(f)) => {
             let len = lines::within(f.len, room);
             let m = answer(page, n, f, &room[..len], table, text);
             let n = lines::bytes(page, m, b".\n");
             lines::outcome(page)?;
             Ok(After { n, more: true })
         }
-        Next::Nothing => Ok(After { n, more: false }),
+        Ok(Next::Nothing) => Ok(After { n, more: false }),
+        Err(e) => {
+            // The answers before it are written.
+            lines::flush(page, n)?;
+            Err(e)
+        }
     }
 }
 
