@@ -22,7 +22,7 @@ pub fn close_in(s: &mut State) -> Out
     f.out
 }
 
-// Callers of the lent entrance with plain parameters: whoever calls them needs no walk of its own.
+// The lent entrance for callers that pass a state by value and get it back.
 pub fn feed_through(s: State, piece: &[u8]) -> Fed
     ensures { fed_of result ≡ feed_of s piece.now }
 {

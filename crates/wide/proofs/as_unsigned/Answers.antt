@@ -4,7 +4,6 @@ use mir.ValLaws.{of_z_fits}
 use Rattle.wide.proofs.Signs.{flip, below_bits, keep}
 use Rattle.wide.proofs.as_unsigned.Goals as goal
 
--- `wide::as_unsigned`: the bits of a number below 0 are the complement of its magnitude less 1.
 pub overflow_cast-k : goal.overflow_cast-k
 overflow_cast-k c = rw (flip _ c.ranges.z c.if-z-lt0.true) (tt, omega arith)
 

@@ -4,7 +4,6 @@ use Rattle.wide.specs.Value.{val}
 use Rattle.wide.proofs.Growth.{fits, over, short, short_val, fitting, above}
 use Rattle.wide.proofs.grow.Goals as goal
 
--- `wide::grow`: one product below 2^56, else two with a carry; the last carry says whether 128 bits hold the number.
 pub overflow_mul-lo : goal.overflow_mul-lo
 overflow_mul-lo c =
     let a = c.args in

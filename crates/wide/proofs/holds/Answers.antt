@@ -4,7 +4,6 @@ use borrow.Author.Tests.{lt-leb}
 use Rattle.wide.proofs.TwoLimbs.{leb_sub}
 use Rattle.wide.proofs.holds.Goals as goal
 
--- `wide::holds`: the sum in the contract is of numbers, the code subtracts.
 pub returns-then-n-k : goal.returns-then-n-k
 returns-then-n-k c = sym (lt-leb (c.args.at + c.args.k) c.args.n (omega arith))
 

@@ -3,7 +3,6 @@ use Rattle.std.proofs.Common.{◌^◌, ◌<◌, w64, SFits, rules}
 use Rattle.wide.proofs.Lowest.{limbs_lowest}
 use Rattle.wide.proofs.is_lowest.Goals as goal
 
--- `wide::is_lowest`: two limbs name -2^127.
 pub returns : goal.returns
 returns c =
     let w = c.args.w in

@@ -5,7 +5,6 @@ use mir.ValLaws.{to_z-of_z}
 use Rattle.wide.proofs.Signs.{sign}
 use Rattle.wide.proofs.negative.Goals as goal
 
--- `wide::negative`: the sign is that of the high limb.
 pub returns : goal.returns
 returns c =
     let w = c.args.w in

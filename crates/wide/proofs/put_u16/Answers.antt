@@ -5,7 +5,6 @@ use Rattle.wide.proofs.Numbers.{le_length}
 use Rattle.lists.proofs.Blocks.{fits_in, no_room}
 use Rattle.wide.proofs.put_u16.Goals as goal
 
--- `wide::put_u16`: two bytes where there is room.
 pub returns-then-out-lt2 : goal.returns-then-out-lt2
 returns-then-out-lt2 c =
     let n = c.args.n in

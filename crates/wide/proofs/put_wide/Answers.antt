@@ -8,7 +8,6 @@ use Rattle.lists.proofs.Blocks.{no_room}
 use Rattle.wide.proofs.Putting.{sixteen}
 use Rattle.wide.proofs.put_wide.Goals as goal
 
--- `wide::put_wide`: the low limb, then the high one into the rest of the buffer.
 pub returns-then-out-lt16 : goal.returns-then-out-lt16
 returns-then-out-lt16 c =
     let w = c.args.w in

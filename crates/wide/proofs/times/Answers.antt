@@ -3,7 +3,6 @@ use Rattle.std.proofs.Common.{◌*◌, ◌/◌, ◌%◌, ◌^◌, ◌≤◌, ari
 use Rattle.wide.proofs.Growth.{small, columns, halves}
 use Rattle.wide.proofs.times.Goals as goal
 
--- `wide::times`: a product of a limb, by halves.
 abbrev x_lo : (c : goal.Start) → c.args.x % 2 ^ 32 * c.args.radix ≤ 1095216660225
 x_lo c = small (c.args.x % 2 ^ 32) c.args.radix (omega arith) c.requires.0
 
