@@ -2,19 +2,11 @@
 use Rattle.std.proofs.Common.{◌≡◌, ℕ, ◌-◌, ◌<◌, ◌≤◌, true, false, not, ◌&&◌, ◌||◌, eqb, leb, sym, refl, arith, le-leb, leb-true}
 use Rattle.lists.proofs.Choice.{pick, and_right, or_right, true_false}
 use Rattle.lists.proofs.Each.{each}
-use Rattle.classes.specs.Classes.{Class, Space, LineEnd, Semicolon, LParen, RParen, AtSign, FormFeed, Minus, Digit, Other, class_of, space, line_end, semicolon, lparen, rparen, is_at_sign, decimal, symbol_first, high, digit_of, literal_byte}
+use Rattle.classes.specs.Classes.{Class, Space, LineEnd, Semicolon, LParen, RParen, AtSign, FormFeed, Minus, Digit, Other, class_of, semicolon, lparen, rparen, is_at_sign, symbol_first, high, digit_of, literal_byte}
 
 -- what a question that one class alone answers yes tells of a class
 no : {P : Type 0} → false ≡ true → P
 no e = true_false (sym e)
-
-pub space_is : (c : Class) → space c ≡ true → c ≡ Space
-space_is c =
-    elim c as (λ k. space k ≡ true → k ≡ Space) [ Space ↦ λ _. refl | LineEnd ↦ no | Semicolon ↦ no | LParen ↦ no | RParen ↦ no | AtSign ↦ no | FormFeed ↦ no | Minus ↦ no | Digit ↦ no | Other ↦ no ]
-
-pub line_end_is : (c : Class) → line_end c ≡ true → c ≡ LineEnd
-line_end_is c =
-    elim c as (λ k. line_end k ≡ true → k ≡ LineEnd) [ Space ↦ no | LineEnd ↦ λ _. refl | Semicolon ↦ no | LParen ↦ no | RParen ↦ no | AtSign ↦ no | FormFeed ↦ no | Minus ↦ no | Digit ↦ no | Other ↦ no ]
 
 pub semicolon_is : (c : Class) → semicolon c ≡ true → c ≡ Semicolon
 semicolon_is c =
@@ -31,10 +23,6 @@ rparen_is c =
 pub at_sign_is : (c : Class) → is_at_sign c ≡ true → c ≡ AtSign
 at_sign_is c =
     elim c as (λ k. is_at_sign k ≡ true → k ≡ AtSign) [ Space ↦ no | LineEnd ↦ no | Semicolon ↦ no | LParen ↦ no | RParen ↦ no | AtSign ↦ λ _. refl | FormFeed ↦ no | Minus ↦ no | Digit ↦ no | Other ↦ no ]
-
-pub decimal_is : (c : Class) → decimal c ≡ true → c ≡ Digit
-decimal_is c =
-    elim c as (λ k. decimal k ≡ true → k ≡ Digit) [ Space ↦ no | LineEnd ↦ no | Semicolon ↦ no | LParen ↦ no | RParen ↦ no | AtSign ↦ no | FormFeed ↦ no | Minus ↦ no | Digit ↦ λ _. refl | Other ↦ no ]
 
 pub first_other : (c : Class) → symbol_first c ≡ true → c ≡ Other
 first_other c =

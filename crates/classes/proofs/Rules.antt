@@ -6,7 +6,7 @@ use Rattle.lists.proofs.Each.{each, same, same_eq}
 use Rattle.classes.specs.Classes.{Class, Space, LineEnd, Semicolon, LParen, RParen, AtSign, FormFeed, Minus, Digit, Other, class_of, space, blank, line_end, semicolon, lparen, rparen, is_at_sign, decimal, symbol_first, symbol_other, digit_of, literal_byte}
 use Rattle.classes.specs.Numbers.{numbered, number_of, named}
 
--- a byte by the tests of `src/lib.rt`, in the order of the classes
+-- a byte by comparisons, in the order of the classes
 abbrev blank_by : ℕ → Bool
 blank_by b = eqb b 32 || eqb b 9 || eqb b 10 || eqb b 13
 

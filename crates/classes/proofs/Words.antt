@@ -1,27 +1,31 @@
--- Eight bytes and their number, as the code writes it. Assumes nothing.
-use Rattle.std.proofs.Common.{◌≡◌, ℕ, ◌+◌, ◌*◌, ◌<◌, List, get_or, arith, w8, Fits}
+-- Eight bytes of a list and their number, as the library reads it. Assumes nothing.
+use Rattle.std.proofs.Common.{◌≡◌, ℕ, ◌+◌, ◌-◌, ◌<◌, List, get_or, take, drop, ap, ◌∙◌, arith, get_or-take}
+use Rattle.std.specs.Int.{w64, from_le_bytes}
+use lib.Seq.{get_or-drop}
+use Rattle.std.specs.Array.{IsFirstChunk}
+use lib.Seq.{take-take}
 use Rattle.classes.specs.PrivateWords.{number}
 
-module _ (s : List ℕ) (i : ℕ) where
-  abbrev at : ℕ → ℕ
-  at j = get_or s (i + j) 0
-
-  pub number_eight :
-      get_or s i 0 + 256 * (at 1 + 256 * (at 2 + 256 * (at 3 + 256 * (at 4 + 256 * (at 5 + 256 * (at 6 + 256 * at 7)))))) ≡ number 8 s i
-  unfolding number
-  number_eight =
-      let e2 : i + 1 + 1 ≡ i + 2 = omega arith in
-      let e3 : i + 2 + 1 ≡ i + 3 = omega arith in
-      let e4 : i + 3 + 1 ≡ i + 4 = omega arith in
-      let e5 : i + 4 + 1 ≡ i + 5 = omega arith in
-      let e6 : i + 5 + 1 ≡ i + 6 = omega arith in
-      let e7 : i + 6 + 1 ≡ i + 7 = omega arith in
-      rw (e2, e3, e4, e5, e6, e7) (omega arith)
-
-  -- each of them is below 256
-  abbrev pub Eight : Type 0
-  Eight = (get_or s i 0 < 256) × (at 1 < 256) × (at 2 < 256) × (at 3 < 256) × (at 4 < 256) × (at 5 < 256) × (at 6 < 256) × (at 7 < 256)
-
-  pub eight_bytes : ((j : ℕ) → Fits w8 (get_or s j 0)) → Eight
-  eight_bytes h =
-      ((h i).fits, (h (i + 1)).fits, (h (i + 2)).fits, (h (i + 3)).fits, (h (i + 4)).fits, (h (i + 5)).fits, (h (i + 6)).fits, (h (i + 7)).fits)
+pub number_eight : (s bs : List ℕ) (i : ℕ) → IsFirstChunk (take (i + 8 - i) (drop i s)) bs 8 → from_le_bytes w64 bs ≡ number 8 s i
+unfolding number
+number_eight s bs i chunk =
+    let eight : i + 8 - i ≡ 8 = omega arith in
+    let e : bs ≡ take 8 (drop i s) = chunk.same ∙ ap (take 8) (ap (λ (k : ℕ). take k (drop i s)) eight) ∙ take-take 8 8 (drop i s) (omega arith) in
+    let at : (j : ℕ) → j < 8 → get_or bs j 0 ≡ get_or s (i + j) 0 =
+    λ j h. ap (λ (l : List ℕ). get_or l j 0) e ∙ get_or-take 8 (drop i s) j 0 h ∙ get_or-drop i s j 0 in
+    let b0 = at 0 (omega arith) in
+    let b1 = at 1 (omega arith) in
+    let b2 = at 2 (omega arith) in
+    let b3 = at 3 (omega arith) in
+    let b4 = at 4 (omega arith) in
+    let b5 = at 5 (omega arith) in
+    let b6 = at 6 (omega arith) in
+    let b7 = at 7 (omega arith) in
+    let e0 : i + 0 ≡ i = omega arith in
+    let e2 : i + 1 + 1 ≡ i + 2 = omega arith in
+    let e3 : i + 2 + 1 ≡ i + 3 = omega arith in
+    let e4 : i + 3 + 1 ≡ i + 4 = omega arith in
+    let e5 : i + 4 + 1 ≡ i + 5 = omega arith in
+    let e6 : i + 5 + 1 ≡ i + 6 = omega arith in
+    let e7 : i + 6 + 1 ≡ i + 7 = omega arith in
+    rw (b0, b1, b2, b3, b4, b5, b6, b7, e0, e2, e3, e4, e5, e6, e7) (omega arith)

@@ -5,10 +5,10 @@ mod numbers;
 pub mod runs;
 
 ghost use Rattle.std.specs.Prelude.{◌≡◌};
-ghost use Rattle.classes.specs.Classes.{class_of, space, blank, line_end, semicolon, lparen, rparen, is_at_sign, decimal, symbol_first, symbol_other, high, digit_of, literal_byte};
+ghost use Rattle.classes.specs.Classes.{class_of, blank, line_end, semicolon, lparen, rparen, is_at_sign, symbol_first, symbol_other, high, digit_of, literal_byte};
 ghost use Rattle.classes.specs.Numbers.{named};
 
-#[derive(Clone, Copy)]
+#[derive(Clone, Copy, Debug, PartialEq, Eq)]
 pub enum Class {
     Space,
     LineEnd,
@@ -19,163 +19,121 @@ pub enum Class {
     FormFeed,
     Minus,
     Digit,
+    // Every other byte: it begins a symbol.
     Other,
 }
 
 // The class that a number of the table names.
-fn named(n: u8) -> Class
-    ensures { result ≡ named n }
-{
-    match n {
-        0 => Class::Space,
-        1 => Class::LineEnd,
-        2 => Class::Semicolon,
-        3 => Class::LParen,
-        4 => Class::RParen,
-        5 => Class::AtSign,
-        6 => Class::FormFeed,
-        7 => Class::Minus,
-        8 => Class::Digit,
-        _ => Class::Other,
+impl From<u8> for Class {
+    ghost from_gives = { λ n class. class ≡ named n };
+
+    #[tactic(auto, unfolding(crate::specs::Numbers::named))]
+    fn from(n: u8) -> Class {
+        match n {
+            0 => Class::Space,
+            1 => Class::LineEnd,
+            2 => Class::Semicolon,
+            3 => Class::LParen,
+            4 => Class::RParen,
+            5 => Class::AtSign,
+            6 => Class::FormFeed,
+            7 => Class::Minus,
+            8 => Class::Digit,
+            _ => Class::Other,
+        }
     }
 }
 
 pub fn class_of(b: u8) -> Class
     ensures { result ≡ class_of b }
 {
-    named(numbers::number_of(b))
+    Class::from(numbers::number_of(b))
 }
 
-// The same by comparisons, for a loop.
+// The same by the name of a public promise (`classes_class_in_loop` of demands); nothing calls it.
 pub fn class_in_loop(b: u8) -> Class
     ensures { result ≡ class_of b }
 {
-    if is_space(b) {
-        return Class::Space;
-    }
-    if is_line_end(b) {
-        return Class::LineEnd;
-    }
-    if is_semicolon(b) {
-        return Class::Semicolon;
-    }
-    if is_lparen(b) {
-        return Class::LParen;
-    }
-    if is_rparen(b) {
-        return Class::RParen;
-    }
-    if is_at_sign(b) {
-        return Class::AtSign;
-    }
-    if b == 12 {
-        return Class::FormFeed;
-    }
-    if b == 45 {
-        return Class::Minus;
-    }
-    if is_decimal(b) {
-        return Class::Digit;
-    }
-    Class::Other
-}
-
-fn is_space(b: u8) -> bool
-    ensures { result ≡ space (class_of b) }
-{
-    (b == 9) | (b == 32)
-}
-
-fn is_decimal(b: u8) -> bool
-    ensures { result ≡ decimal (class_of b) }
-{
-    (48 <= b) & (b <= 57)
+    class_of(b)
 }
 
 pub fn is_blank(b: u8) -> bool
     ensures { result ≡ blank (class_of b) }
 {
-    (b == 32) | (b == 9) | (b == 10) | (b == 13)
+    numbers::number_of(b) <= 1
 }
 
 pub fn is_line_end(b: u8) -> bool
     ensures { result ≡ line_end (class_of b) }
 {
-    (b == 10) | (b == 13)
+    b == b'\n' || b == b'\r'
 }
 
 pub fn is_semicolon(b: u8) -> bool
     ensures { result ≡ semicolon (class_of b) }
 {
-    b == 59
+    b == b';'
 }
 
 pub fn is_lparen(b: u8) -> bool
     ensures { result ≡ lparen (class_of b) }
 {
-    b == 40
+    b == b'('
 }
 
 pub fn is_rparen(b: u8) -> bool
     ensures { result ≡ rparen (class_of b) }
 {
-    b == 41
+    b == b')'
 }
 
 pub fn is_at_sign(b: u8) -> bool
     ensures { result ≡ is_at_sign (class_of b) }
 {
-    b == 64
+    b == b'@'
 }
 
 // A byte above `@`: each begins a symbol and goes on in one.
 pub fn is_high(b: u8) -> bool
     ensures { result ≡ high b }
 {
-    64 < b
+    b'@' < b
 }
 
 pub fn is_sym_first_char(b: u8) -> bool
     ensures { result ≡ symbol_first (class_of b) }
 {
-    if 64 < b {
-        return true;
-    }
-    is_sym_other_char(b) & !((b == 45) | ((48 <= b) & (b <= 57)))
+    9 <= numbers::number_of(b)
 }
 
 pub fn is_sym_other_char(b: u8) -> bool
     ensures { result ≡ symbol_other (class_of b) }
 {
-    !((b == 9)
-        | (b == 10)
-        | (b == 12)
-        | (b == 13)
-        | (b == 32)
-        | (b == 40)
-        | (b == 41)
-        | (b == 59)
-        | (b == 64))
+    7 <= numbers::number_of(b)
 }
 
-// The digit's value, or 16.
+// The digit's value, or 16, which is below no radix: `digit_of` of specs/Classes has it so. By a `match` of ranges source of many literals took 9 % more
+// instructions.
+#[tactic(auto, unfolding(crate::specs::Classes::digit_of), using(std::proofs::lemmas::Bool::Decides::nat_tests))]
 pub fn digit_of(b: u8) -> u8
     ensures { result ≡ digit_of b }
 {
-    if (48 <= b) & (b <= 57) {
-        return b - 48;
+    if b'0' <= b && b <= b'9' {
+        return b - b'0';
     }
-    if (97 <= b) & (b <= 102) {
-        return b - 87;
+    if b'a' <= b && b <= b'f' {
+        return b - b'a' + 10;
     }
-    if (65 <= b) & (b <= 70) {
-        return b - 55;
+    if b'A' <= b && b <= b'F' {
+        return b - b'A' + 10;
     }
     16
 }
 
+// By the numbers of the table source of many literals took 10 % more instructions, with `||` 3 % more.
+#[tactic(auto, unfolding(crate::specs::Classes::literal_byte))]
 pub fn is_literal_byte(b: u8) -> bool
     ensures { result ≡ literal_byte b }
 {
-    (b == 95) | (digit_of(b) <= 15)
+    (b == b'_') | (digit_of(b) <= 15)
 }

@@ -2,6 +2,7 @@
 ghost use Rattle.std.specs.Prelude.{◌≡◌};
 ghost use Rattle.classes.specs.Numbers.{number_of};
 
+// Numbers and no `Class`: document 02, 4/12 wants a table of 256, and 10 is the number of no class.
 const CLASS: [u8; 256] = [
     9, // zero
     9, 9, 9, 9, 9, 9, 9, 9, 0, // tab
@@ -32,7 +33,7 @@ const CLASS: [u8; 256] = [
     9, 9, 9, 9, 9, 9, 9, 9, 9, 9, 9, 9, 9, 9, 9, 9, 9, 9, 9, 9, 9, 9, 9, 9, 9, 9, 9, 9, 9, 9, 9, // 0xff
 ];
 
-// One read of the table. The compiler makes the table anew at each: a loop over a run of bytes asks the tests of `lib.rt` instead.
+// One read of the table.
 pub fn number_of(b: u8) -> u8
     ensures { result ≡ number_of b }
 {

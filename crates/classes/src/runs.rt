@@ -1,41 +1,59 @@
 // Where runs of bytes end, eight bytes a step.
-ghost use Rattle.std.specs.Prelude.{◌≡◌, ◌+◌, ◌%◌, ◌^◌, ◌<◌, ◌≤◌, length};
-ghost use Rattle.classes.specs.Runs.{symbol_run, line_run};
+ghost use Rattle.std.specs.Prelude.{◌≡◌, ℕ, ◌+◌, ◌%◌, ◌^◌, ◌<◌, ◌≤◌, Bool, not, length};
+ghost use Rattle.classes.specs.Classes.{class_of, line_end, symbol_other};
+ghost use Rattle.classes.specs.Runs.{run_end, symbol_run, line_run};
 ghost use Rattle.classes.specs.PrivateWords.{Marks, number};
+
+// Bytes that run on. Each kind has marks of its own: with one formula for both, as a line has it, a symbol's end took 1.7 % more instructions.
+trait Run {
+    ghost goes_on: { ℕ → Bool };
+
+    fn goes_on(b: u8) -> bool
+        ensures { result ≡ goes_on b };
+
+    // Marks by their highest bits the bytes of a word that may end the run. The first mark is right; those behind it may not be.
+    fn marks(w: u64) -> u64
+        ensures { Marks (run_end goes_on) w result };
+}
+
+// The bytes that a symbol runs on over.
+struct Symbol;
+
+impl Run for Symbol {
+    ghost goes_on = { λ b. symbol_other (class_of b) };
+
+    fn goes_on(b: u8) -> bool {
+        crate::is_sym_other_char(b)
+    }
+
+    // Those below 65 or above 127.
+    fn marks(w: u64) -> u64 {
+        (w.wrapping_sub(0x4141_4141_4141_4141) | w) & 0x8080_8080_8080_8080
+    }
+}
+
+// The bytes that a line runs on over.
+struct Line;
+
+impl Run for Line {
+    ghost goes_on = { λ b. not (line_end (class_of b)) };
+
+    fn goes_on(b: u8) -> bool {
+        !crate::is_line_end(b)
+    }
+
+    // Those below 14.
+    fn marks(w: u64) -> u64 {
+        w.wrapping_sub(0x0e0e_0e0e_0e0e_0e0e) & !w & 0x8080_8080_8080_8080
+    }
+}
 
 // Eight bytes as one number, the first one lowest.
 fn word(s: &[u8], at: usize) -> u64
     requires { at + 8 ≤ length s.now }
     ensures { result ≡ number 8 s.now at }
 {
-    (s[at] as u64)
-        + 256
-            * ((s[at + 1] as u64)
-                + 256
-                    * ((s[at + 2] as u64)
-                        + 256
-                            * ((s[at + 3] as u64)
-                                + 256
-                                    * ((s[at + 4] as u64)
-                                        + 256
-                                            * ((s[at + 5] as u64)
-                                                + 256
-                                                    * ((s[at + 6] as u64)
-                                                        + 256 * (s[at + 7] as u64)))))))
-}
-
-// Marks by their highest bits the bytes of a word that are below 65 or above 127. The first mark is right; those behind it may not be.
-fn marks_outside(w: u64) -> u64
-    ensures { Marks symbol_run w result }
-{
-    (std::num::wrapping_sub_u64(w, 0x4141_4141_4141_4141) | w) & 0x8080_8080_8080_8080
-}
-
-// The same of the bytes below 14.
-fn marks_below(w: u64) -> u64
-    ensures { Marks line_run w result }
-{
-    std::num::wrapping_sub_u64(w, 0x0e0e_0e0e_0e0e_0e0e) & !w & 0x8080_8080_8080_8080
+    u64::from_le_bytes(*s[at..at + 8].first_chunk().unwrap())
 }
 
 // How many bytes stand before the first mark.
@@ -43,65 +61,48 @@ fn before_mark(m: u64) -> usize
     requires { 0 < m }
     ensures { (result < 8) × (m % 256 ^ result ≡ 0) }
 {
-    (u64::trailing_zeros(m) / 8) as usize
+    (m.trailing_zeros() / 8) as usize
+}
+
+// The place past the bytes that go on.
+fn end<R: Run>(s: &[u8], at: usize) -> usize
+    ensures { result ≡ run_end R.goes_on s.now at }
+{
+    if s.len() < at {
+        return at;
+    }
+    let mut i = at;
+    // No chunks: behind a marked byte that goes on the next eight begin at any place.
+    while i + 8 <= s.len() {
+        let m = R::marks(word(s, i));
+        if m == 0 {
+            i += 8;
+        } else {
+            i += before_mark(m);
+            if !R::goes_on(s[i]) {
+                return i;
+            }
+            i += 1;
+        }
+    }
+    for j in i..s.len() {
+        if !R::goes_on(s[j]) {
+            return j;
+        }
+    }
+    s.len()
 }
 
 // The place past the bytes that a symbol runs on over.
 pub fn symbol_end(s: &[u8], at: usize) -> usize
     ensures { result ≡ symbol_run s.now at }
 {
-    if s.len() < at {
-        return at;
-    }
-    let mut i = at;
-    while i + 8 <= s.len() {
-        let m = marks_outside(word(s, i));
-        if m == 0 {
-            i += 8;
-        } else {
-            i += before_mark(m);
-            if crate::is_sym_other_char(s[i]) {
-                i += 1;
-            } else {
-                return i;
-            }
-        }
-    }
-    while i < s.len() {
-        if crate::is_sym_other_char(s[i]) {
-            i += 1;
-        } else {
-            return i;
-        }
-    }
-    i
+    end::<Symbol>(s, at)
 }
 
 // The place of the byte that ends a line, or the end.
 pub fn line_end(s: &[u8], at: usize) -> usize
     ensures { result ≡ line_run s.now at }
 {
-    if s.len() < at {
-        return at;
-    }
-    let mut i = at;
-    while i + 8 <= s.len() {
-        let m = marks_below(word(s, i));
-        if m == 0 {
-            i += 8;
-        } else {
-            i += before_mark(m);
-            if crate::is_line_end(s[i]) {
-                return i;
-            }
-            i += 1;
-        }
-    }
-    while i < s.len() {
-        if crate::is_line_end(s[i]) {
-            return i;
-        }
-        i += 1;
-    }
-    i
+    end::<Line>(s, at)
 }

@@ -1,35 +1,15 @@
--- A room whose front is written byte after byte, or in two blocks that overlap. Assumes nothing.
+-- A room whose front is written in two blocks that overlap. Assumes nothing.
 use mathlib.Core.Path.{◌≡◌, refl, ap, sym, ◌∙◌}
 use mathlib.Core.List.{List, ◌++◌}
-use Prim.Native.Nat.{ℕ, zero, suc, ◌+◌, ◌-◌, ◌≤◌, ◌<◌}
+use Prim.Native.Nat.{ℕ, ◌+◌, ◌-◌, ◌≤◌, ◌<◌}
 use native.Mathlib.Omega.{arith}
-use lib.ListN.{length, take, drop, set, get_or, length-set, length-drop, take-append-drop}
-use lib.Seq.{length-take-le, take-suc, take-length, take-take, take-append-le, take_all, drop_at, drop-drop}
+use lib.ListN.{length, take, drop, length-drop, take-append-drop}
+use lib.Seq.{length-take-le, take-length, take-take, take-append-le, take_all, drop_at, drop-drop}
 use borrow.Rule.Slice.PartMut.{put_mid}
 use mathlib.Core.Bool.{cond}
 use borrow.Author.Tests.{le-leb, lt-leb}
 use Rattle.lists.specs.Over.{over, fitted}
-use Rattle.lists.proofs.Writing.{Wrote, wrote_lent, part_drop, over_set, over_length}
-
--- the first k bytes of s, put into b one after another
-abbrev pub fill : List ℕ → List ℕ → ℕ → List ℕ
-fill s b zero = b
-fill s b (suc k) = set (fill s b k) k (get_or s k 0)
-
-pub fill_length : (s b : List ℕ) (k : ℕ) → length (fill s b k) ≡ length b
-fill_length s b zero = refl
-fill_length s b (suc k) = length-set (fill s b k) k (get_or s k 0) ∙ fill_length s b k
-
-pub fill_over : (s b : List ℕ) (k : ℕ) → k ≤ length s → k ≤ length b → fill s b k ≡ over (take k s) b
-fill_over s b zero h l = refl
-fill_over s b (suc k) h l =
-    ap (λ (r : List ℕ). set r k (get_or s k 0)) (fill_over s b k (omega arith) (omega arith))
-    ∙ over_set (take k s) b k (get_or s k 0) (length-take-le k s (omega arith)) (omega arith)
-    ∙ ap (λ (o : List ℕ). over o b) (sym (take-suc s k 0 (omega arith)))
-
--- where s has no more than those
-pub fill_all : (s b : List ℕ) (k : ℕ) → length s ≡ k → k ≤ length b → fill s b k ≡ over s b
-fill_all s b k e l = fill_over s b k (omega arith) l ∙ ap (λ (o : List ℕ). over o b) (ap (λ (j : ℕ). take j s) (sym e) ∙ take-length s)
+use Rattle.lists.proofs.Writing.{Wrote, wrote_lent, part_drop, over_length}
 
 -- the first k bytes of s, then the last k at their place: all of s, where no byte is left out between the two
 pub overlap : (k : ℕ) (s b b' ys : List ℕ) → k ≤ length s → length s ≤ k + k → length s ≤ length b → b' ≡ over (take k s) b

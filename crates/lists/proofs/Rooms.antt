@@ -1,13 +1,12 @@
 -- A room that has the bytes of a text holds them in the end; one that is too short may hold anything. Assumes nothing.
-use mathlib.Core.Path.{◌≡◌, sym, subst, subst⁻¹, ◌∙◌}
+use mathlib.Core.Path.{◌≡◌, sym, subst⁻¹, ◌∙◌}
 use mathlib.Core.List.{List, ◌++◌}
 use Prim.Native.Nat.{ℕ, ◌+◌, ◌-◌, ◌≤◌}
 use native.Mathlib.Omega.{arith}
 use lib.ListN.{length, take, drop, length-append}
 use borrow.Rule.Slice.PartMut.{put_mid}
-use Rattle.lists.specs.Over.{over, fitted}
+use Rattle.lists.specs.Over.{over}
 use Rattle.lists.specs.Rooms.{Filled, Puts}
-use Rattle.lists.proofs.Blocks.{fitted_over}
 use Rattle.lists.proofs.Writing.{Wrote, wrote_lent, wrote_length, part_length}
 
 -- one text after the other: the second went into the rest of the room from r, its first free byte where the room is long enough
@@ -23,7 +22,3 @@ puts_both o o' b b₁ ys n k r f er g =
           λ h. (wrote_lent w o' ys k (sym g.0) (omega (arith, f.0)) (h (rw (part_length n b₁) (omega (arith, wrote_length w, f.0, g.0))))).holds in
           subst⁻¹ (λ (j : ℕ). Filled o' (take (length b₁ - j) (drop j b₁)) ys → put_mid j (length b₁ - j) b₁ ys ≡ over (o ++ o') b) e there g.1,
     )
-
--- a text that is put whole or not at all
-pub puts_fitted : (o o' b b' : List ℕ) (n : ℕ) → o ≡ o' → (n ≡ length o) × (b' ≡ fitted o b) → Puts o' n b b'
-puts_fitted o o' b b' n e h = subst (λ (v : List ℕ). Puts v n b b') e (h.0, λ l. h.1 ∙ fitted_over o b l)

@@ -1,10 +1,10 @@
--- What a lent buffer holds while its front is written: byte by byte, by lending its rest on, by a run of equal bytes. Assumes nothing.
+-- What a lent buffer holds while its front is written: byte by byte, by lending its rest on. Assumes nothing.
 use mathlib.Core.Path.{◌≡◌, refl, ap, ◌∙◌}
 use mathlib.Core.List.{List, [], ◌∷◌, ◌++◌, append_assoc, append-nil}
 use Prim.Native.Nat.{ℕ, ◌+◌, ◌-◌, ◌≤◌, ◌<◌}
 use native.Mathlib.Omega.{arith}
 use native.Mathlib.Numerals.{add-one}
-use lib.ListN.{length, take, drop, set, length-append, length-drop, drop_of_length-le, replicate, length-replicate, replicate-append-replicate}
+use lib.ListN.{length, take, drop, set, length-append, length-drop, drop_of_length-le}
 use lib.Seq.{drop-cons, set_at, take_at, drop_at, drop-drop, take_all}
 use borrow.Rule.Slice.PartMut.{put_mid}
 use Rattle.lists.specs.Over.{over}
@@ -59,9 +59,3 @@ wrote_lent {o} {b₀} {b} {w} h o' ys n en le ey = record {
       let ys' : ys ≡ o' ++ drop (w + length o') b₀ = ey ∙ rw (part_drop w b, back) (ap (λ (r : List ℕ). o' ++ r) (drop-drop (length o') w b₀)) in
       rw (none, front, ys') (simp (append-nil, append_assoc, length-append, ew));
 }
-
--- one more of a run of equal bytes
-pub over_more : (b : List ℕ) (i x : ℕ) → i < length b → set (over (replicate i x) b) i x ≡ over (replicate (i + 1) x) b
-over_more b i x h =
-    over_set (replicate i x) b i x (length-replicate i x) h
-    ∙ ap (λ (o : List ℕ). over o b) (replicate-append-replicate i 1 x)

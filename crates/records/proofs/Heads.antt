@@ -1,4 +1,5 @@
 -- A record that stands at a place is read back, and what is read there stands there. Assumes nothing.
+use Rattle.std.specs.Prelude.{Option, Some, None}
 use mathlib.Core.Path.{◌≡◌, refl, ap, sym, subst, ◌∙◌}
 use mathlib.Core.List.{List}
 use Prim.Native.Nat.{ℕ, ◌+◌, ◌-◌, ◌^◌, ◌≤◌, ◌<◌}
@@ -10,7 +11,7 @@ use Rattle.lists.proofs.Choice.{pick}
 use Rattle.lists.proofs.Stands.{Stands, stands_left, stands_right, stands_take, stands_length, stands_join, stands_part, part_size}
 use Rattle.wide.specs.Bytes.{Bytes, le, number, number_at, number_in}
 use Rattle.wide.proofs.Numbers.{bytes_part, le_length, le_number_of, number_le, number_lt}
-use Rattle.records.specs.Records.{Head, Cut, Is, head_len, head_of, record_of, len_at, kind_at, payload, head_at}
+use Rattle.records.specs.Records.{Head, head, head_len, head_of, record_of, len_at, kind_at, payload, head_at}
 
 pub head_length : (kind len : ℕ) → length (head_of kind len) ≡ head_len
 unfolding le
@@ -26,24 +27,24 @@ within_is k t p r h e = sym (e ∙ rw (le-leb (p + k) (length t) h) refl)
 
 -- ---- the head at a place, by the tests that the code makes
 
-pub past_end : (t : List ℕ) (at : ℕ) → length t < at → Cut ≡ head_at t at
+pub past_end : (t : List ℕ) (at : ℕ) → length t < at → None ≡ head_at t at
 unfolding head_at
 past_end t at h = rw (lt-ltb (length t - at) head_len (omega arith)) refl
 
-pub too_few : (t : List ℕ) (at : ℕ) → length t - at < head_len → Cut ≡ head_at t at
+pub too_few : (t : List ℕ) (at : ℕ) → length t - at < head_len → None ≡ head_at t at
 unfolding head_at
 too_few t at h = rw (lt-ltb (length t - at) head_len h) refl
 
 module _ (t : List ℕ) (at len : ℕ) (few : head_len ≤ length t - at) (e : len ≡ number_in 4 t at) where
-  pub cut : length t - at < len → Cut ≡ head_at t at
+  pub cut : length t - at < len → None ≡ head_at t at
   unfolding head_at
   cut h = rw (within_is 4 t at len (omega arith) e, le-ltb (length t - at) head_len few, lt-ltb (length t - at) len h) refl
 
-  pub below : len ≤ length t - at → len < head_len → Cut ≡ head_at t at
+  pub below : len ≤ length t - at → len < head_len → None ≡ head_at t at
   unfolding head_at
   below hl h = rw (within_is 4 t at len (omega arith) e, le-ltb (length t - at) head_len few, le-ltb (length t - at) len hl, lt-ltb len head_len h) refl
 
-  pub headed : (kind : ℕ) → len ≤ length t - at → head_len ≤ len → kind ≡ number_in 2 t (at + 4) → Is kind len ≡ head_at t at
+  pub headed : (kind : ℕ) → len ≤ length t - at → head_len ≤ len → kind ≡ number_in 2 t (at + 4) → Some (head kind len) ≡ head_at t at
   unfolding head_at
   headed kind hl h f =
       rw (
@@ -56,14 +57,14 @@ module _ (t : List ℕ) (at len : ℕ) (few : head_len ≤ length t - at) (e : l
 
 -- ---- what a head that was read says of the bytes
 
-abbrev pub HeadIn : List ℕ → ℕ → Head → Type 0
-HeadIn t at Cut = Unit {0}
-HeadIn t at (Is kind len) = (kind_at t at ≡ kind) × (len_at t at ≡ len) × (head_len ≤ len) × (len ≤ length t - at)
+abbrev pub HeadIn : List ℕ → ℕ → Option Head → Type 0
+HeadIn t at None = Unit {0}
+HeadIn t at (Some h) = (kind_at t at ≡ h.kind) × (len_at t at ≡ h.len) × (head_len ≤ h.len) × (h.len ≤ length t - at)
 
 pub head_in : (t : List ℕ) (at : ℕ) → HeadIn t at (head_at t at)
 unfolding head_at
 head_in t at =
-    let P : Head → Type 0 = HeadIn t at in
+    let P : Option Head → Type 0 = HeadIn t at in
     let left : ℕ = length t - at in
     let len : ℕ = len_at t at in
     pick P (ltb left head_len) (λ _. tt) (λ _.
@@ -71,7 +72,7 @@ head_in t at =
     pick P (ltb len head_len) (λ _. tt) (λ f. (refl, refl, ltb-false len head_len f, ltb-false left len e))))
 
 -- the same of a head x that was read as y
-pub read_head : (t : List ℕ) (at : ℕ) (x y : Head) → x ≡ head_at t at → x ≡ y → HeadIn t at y
+pub read_head : (t : List ℕ) (at : ℕ) (x y : Option Head) → x ≡ head_at t at → x ≡ y → HeadIn t at y
 read_head t at x y e e' = subst (HeadIn t at) (sym e ∙ e') (head_in t at)
 
 -- ---- a record that stands at a place
@@ -98,7 +99,7 @@ stood t p kind bs hp hk hb s =
       room = omega (arith, length_record kind bs, stands_length t p (record_of kind bs) hp s);
     }
 
-pub stood_head : (t : List ℕ) (p kind : ℕ) (bs : List ℕ) → Stood t p kind bs → head_at t p ≡ Is kind (length bs + head_len)
+pub stood_head : (t : List ℕ) (p kind : ℕ) (bs : List ℕ) → Stood t p kind bs → head_at t p ≡ Some (head kind (length bs + head_len))
 unfolding head_at
 stood_head t p kind bs h =
     rw (h.len, h.kind_is)

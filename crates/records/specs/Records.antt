@@ -1,8 +1,7 @@
 -- The format of records (document 01, 'Trees and their table'): the length of the whole record in 4 bytes, its kind in 2, its payload.
-use Rattle.std.specs.Prelude.{ℕ, ◌+◌, ◌-◌, cond, List, ◌++◌, ltb, length, take, drop}
+use Rattle.std.specs.Prelude.{ℕ, ◌+◌, ◌-◌, cond, List, ◌++◌, ltb, length, take, drop, Option, Some, None}
 use Rattle.wide.specs.Bytes.{le, number_at}
 pub use Rattle.records.specs.declared.Head.{Head}
-pub use Rattle.records.specs.declared.Head.TheVariants.{Cut, Is}
 
 -- the bytes of a head: those of the length and of the kind
 abbrev pub head_len : ℕ
@@ -26,9 +25,13 @@ kind_at t at = number_at 2 t (at + 4)
 abbrev pub payload : List ℕ → ℕ → ℕ → List ℕ
 payload t at len = take (len - head_len) (drop (at + head_len) t)
 
--- by the bytes left, the kind and the length: cut short, or the length is past the end or below a head's
-abbrev pub head_by : ℕ → ℕ → ℕ → Head
-head_by left kind len = cond (ltb left head_len) Cut (cond (ltb left len) Cut (cond (ltb len head_len) Cut (Is kind len)))
+-- a kind and a length
+abbrev pub head : ℕ → ℕ → Head
+head kind len = record { kind = kind; len = len }
 
-unfoldable pub head_at : List ℕ → ℕ → Head
+-- by the bytes left, the kind and the length: none where the record is cut short, or the length is past the end or below a head's
+abbrev pub head_by : ℕ → ℕ → ℕ → Option Head
+head_by left kind len = cond (ltb left head_len) None (cond (ltb left len) None (cond (ltb len head_len) None (Some (head kind len))))
+
+unfoldable pub head_at : List ℕ → ℕ → Option Head
 head_at t at = head_by (length t - at) (kind_at t at) (len_at t at)

@@ -1,5 +1,8 @@
 -- The numbers of document 01, 'Numbers given instead of an answer', and of document 02, and the limits of 'What is ported and what is added', by name.
 use Rattle.std.specs.Prelude.{ℕ}
+use Rattle.refusals.specs.declared.Fault.{Fault}
+use Rattle.refusals.specs.declared.Fault.TheVariants as fault
+use Rattle.refusals.specs.declared.Refusal.{Refusal}
 
 -- bytes of a source; bytes of a table; bytes of a settings file; lists and bindings open at once
 abbrev pub source_limit : ℕ
@@ -112,3 +115,34 @@ wrong_cost = 25
 -- style name not of 1 to 32 bytes, at its length
 abbrev pub bad_style_name : ℕ
 bad_style_name = 26
+
+-- the number that each fault of the code stands for, and the refusal for it at a place
+abbrev pub number_of : Fault → ℕ
+number_of fault.TooLong = too_long
+number_of fault.PastSource = past_source
+number_of fault.FormFeed = form_feed
+number_of fault.OpenComment = open_comment
+number_of fault.NoDigits = no_digits
+number_of fault.ForeignDigit = foreign_digit
+number_of fault.TooLarge = too_large
+number_of fault.MinusLowest = minus_lowest
+number_of fault.NoListOpen = no_list_open
+number_of fault.ListOpen = list_open
+number_of fault.NoSymbol = no_symbol
+number_of fault.NoTree = no_tree
+number_of fault.TooDeep = too_deep
+number_of fault.TableRoom = table_room
+number_of fault.BadRecord = bad_record
+number_of fault.BadSymbol = bad_symbol
+number_of fault.PrintRoom = print_room
+number_of fault.FedAfterClose = fed_after_close
+number_of fault.UnknownKind = unknown_kind
+number_of fault.WrongLength = wrong_length
+number_of fault.MissingTrees = missing_trees
+number_of fault.BadSettings = bad_settings
+number_of fault.NotSet = not_set
+number_of fault.WrongCost = wrong_cost
+number_of fault.BadStyleName = bad_style_name
+
+abbrev pub fault_at : Fault → ℕ → Refusal
+fault_at f a = record { number = number_of f; place = a }

@@ -1,12 +1,69 @@
 // The numbers that documents 01 and 02 give instead of an answer, and the limits, by name.
 #![tactic(auto)]
 
-// A refusal: its number and its place.
-#[derive(Clone, Copy)]
+ghost use Rattle.std.specs.Prelude.{◌≡◌};
+ghost use Rattle.refusals.specs.Numbers.{fault_at};
+
+use std::error::Error;
+use std::fmt;
+
+// The rows of the table 'Numbers given instead of an answer', in its order, and what document 02 adds to them. Each stands for its number.
+#[derive(Clone, Copy, Debug, PartialEq, Eq)]
+pub enum Fault {
+    TooLong = 1,
+    PastSource,
+    FormFeed,
+    OpenComment,
+    NoDigits,
+    ForeignDigit,
+    TooLarge,
+    MinusLowest,
+    NoListOpen,
+    ListOpen,
+    NoSymbol,
+    NoTree,
+    TooDeep,
+    TableRoom,
+    BadRecord,
+    BadSymbol,
+    // 17 is retired (document 02, 6/12): it is never given, and its number is not used again.
+    PrintRoom = 18,
+    FedAfterClose,
+    UnknownKind,
+    WrongLength,
+    MissingTrees,
+    BadSettings,
+    NotSet,
+    WrongCost,
+    BadStyleName,
+}
+
+impl Fault {
+    // The refusal for this fault at a place.
+    pub fn at(self, place: usize) -> Refusal
+        ensures { result ≡ fault_at self place }
+    {
+        Refusal {
+            number: self as u8,
+            place,
+        }
+    }
+}
+
+// A refusal: its number and its place. The number is any byte, for a feeder's state that comes from a host's words holds whatever stands there.
+#[derive(Clone, Copy, Debug, PartialEq, Eq)]
 pub struct Refusal {
     pub number: u8,
     pub place: usize,
 }
+
+impl fmt::Display for Refusal {
+    fn fmt<W: fmt::Write>(&self, f: &mut fmt::Formatter<W>) -> fmt::Result {
+        write!(f, "refusal {} at {}", self.number, self.place)
+    }
+}
+
+impl Error for Refusal {}
 
 // The limits of a source, of a table and of a settings file in bytes, and of the lists and bindings open at once.
 pub const SOURCE_LIMIT: usize = 1048576;
@@ -16,57 +73,3 @@ pub const TABLE_LIMIT: usize = 16777216;
 pub const SETTINGS_LIMIT: usize = 65536;
 
 pub const DEPTH_LIMIT: usize = 64;
-
-// The rows of the table 'Numbers given instead of an answer', in its order.
-pub const TOO_LONG: u8 = 1;
-
-pub const PAST_SOURCE: u8 = 2;
-
-pub const FORM_FEED: u8 = 3;
-
-pub const OPEN_COMMENT: u8 = 4;
-
-pub const NO_DIGITS: u8 = 5;
-
-pub const FOREIGN_DIGIT: u8 = 6;
-
-pub const TOO_LARGE: u8 = 7;
-
-pub const MINUS_LOWEST: u8 = 8;
-
-pub const NO_LIST_OPEN: u8 = 9;
-
-pub const LIST_OPEN: u8 = 10;
-
-pub const NO_SYMBOL: u8 = 11;
-
-pub const NO_TREE: u8 = 12;
-
-pub const TOO_DEEP: u8 = 13;
-
-pub const TABLE_ROOM: u8 = 14;
-
-pub const BAD_RECORD: u8 = 15;
-
-pub const BAD_SYMBOL: u8 = 16;
-
-// 17 is retired (document 02, 6/12): it is never given, and its number is not used again.
-
-pub const PRINT_ROOM: u8 = 18;
-
-pub const FED_AFTER_CLOSE: u8 = 19;
-
-// What document 02 adds to them.
-pub const UNKNOWN_KIND: u8 = 20;
-
-pub const WRONG_LENGTH: u8 = 21;
-
-pub const MISSING_TREES: u8 = 22;
-
-pub const BAD_SETTINGS: u8 = 23;
-
-pub const NOT_SET: u8 = 24;
-
-pub const WRONG_COST: u8 = 25;
-
-pub const BAD_STYLE_NAME: u8 = 26;

@@ -1,7 +1,8 @@
 -- Two limbs times a radix plus a digit: over a variable base, since omega stops at 38 digits. Assumes nothing.
+use Rattle.std.specs.Prelude.{Some, None}
 use Rattle.std.proofs.Common.{◌≡◌, ℕ, ◌+◌, ◌*◌, ◌/◌, ◌%◌, ◌^◌, ◌<◌, ◌≤◌, Bool, cond, sym, ap, ◌∙◌, subst, le_trans, mul-le-mul_right, mul_assoc, mul_comm, add-mul, pos_of_ne-zero, mul-le-mul_left, arith, le-ltb, lt-ltb}
 use lib.Pow.{split}
-use Rattle.wide.specs.Value.{Limbs, Fits, Over, val, split as halves_of, grown}
+use Rattle.wide.specs.Value.{Limbs, val, split as halves_of, grown}
 use Rattle.wide.proofs.TwoLimbs.{limbs_of, val_lt}
 
 pub small : (p r : ℕ) → p < 2 ^ 32 → r ≤ 255 → p * r ≤ 1095216660225
@@ -36,15 +37,15 @@ above h l r d c1 l' c2 h' e f z =
     big x k N z = let p : 1 * N ≤ k * N = mul-le-mul_right N z in omega arith
 
 -- what `grown` says of limbs that hold the number, and of a number that none hold
-pub fits : (n : Limbs) (m : ℕ) → n.hi < 2 ^ 64 → n.lo < 2 ^ 64 → val n ≡ m → Fits n ≡ grown m
+pub fits : (n : Limbs) (m : ℕ) → n.hi < 2 ^ 64 → n.lo < 2 ^ 64 → val n ≡ m → Some n ≡ grown m
 unfolding grown
 fits n m p q e =
     let l : m < 2 ^ 128 = subst (λ (x : ℕ). x < 2 ^ 128) e (val_lt n p q) in
-    ap Fits (limbs_of n m q e) ∙ sym (ap (λ (t : Bool). cond t (Fits (halves_of m)) Over) (lt-ltb m (2 ^ 128) l))
+    ap Some (limbs_of n m q e) ∙ sym (ap (λ (t : Bool). cond t (Some (halves_of m)) None) (lt-ltb m (2 ^ 128) l))
 
-pub over : (m : ℕ) → 2 ^ 128 ≤ m → Over ≡ grown m
+pub over : (m : ℕ) → 2 ^ 128 ≤ m → None ≡ grown m
 unfolding grown
-over m h = sym (ap (λ (t : Bool). cond t (Fits (halves_of m)) Over) (le-ltb m (2 ^ 128) h))
+over m h = sym (ap (λ (t : Bool). cond t (Some (halves_of m)) None) (le-ltb m (2 ^ 128) h))
 
 -- below 2^56 one limb is enough
 pub short : (l r d : ℕ) → l < 2 ^ 56 → r ≤ 255 → d ≤ 255 → l * r + d < 2 ^ 64

@@ -1,9 +1,13 @@
 -- Little-endian numbers: there and back, in parts, and an integer's 16 bytes. Assumes nothing.
-use Rattle.std.proofs.Common.{◌≡◌, ℕ, zero, suc, ◌+◌, ◌*◌, ◌/◌, ◌%◌, ◌^◌, ◌<◌, ◌≤◌, Bool, true, false, cond, leb, List, [], ◌∷◌, ◌++◌, length, get_or, take, drop, ℤ, pos, negsuc, nat_abs, sym, refl, ap, ◌∙◌, subst, mod-lt, mul_assoc, mul_comm, suc-add, pow-suc, div-add-mod', zero-add, div-one, add-one, arith, lit<, drop-cons, SFits, to_z, of_z}
+use Rattle.std.proofs.Common.{◌≡◌, ℕ, zero, suc, ◌+◌, ◌-◌, ◌*◌, ◌/◌, ◌%◌, ◌^◌, ◌<◌, ◌≤◌, Bool, cond, List, [], ◌∷◌, ◌++◌, length, get_or, take, drop, ℤ, pos, negsuc, nat_abs, sym, refl, ap, ◌∙◌, subst, mod-lt, mul_assoc, mul_comm, suc-add, pow-suc, div-add-mod', zero-add, div-one, add-one, arith, lit<, ap₂, le-leb, length-drop, drop-cons, w64, SFits, to_z, of_z}
 use native.Mathlib.Nat.{pow-zero, pow-succ', one-le-pow, div-div-eq-div-mul}
+use Rattle.std.specs.Int.{byte_at, byte_worth, bytes_low_first, sum_through, to_le_bytes, from_le_bytes}
 use lib.Arith.{digits_div}
+use lib.Seq.{take_all}
+use borrow.Author.Tests.{lt-leb}
 use mir.Syntax.{w128}
 use mir.ValLaws.{of_z_fits, to_z-of_z, of_z-to_z}
+use Rattle.lists.proofs.Stands.{part_size}
 use Rattle.wide.specs.Bytes.{Bytes, le, number, number_at, number_in, wide_bytes, integer_at, wide_in}
 
 -- the same by the list's structure
@@ -77,14 +81,27 @@ le_add (suc j) k n =
     ap (λ (m : ℕ). le m n) (suc-add j k) ∙ ap (λ (t : List ℕ). n % 256 ∷ t)
     (le_add j k (n / 256) ∙ ap (λ (m : ℕ). le j (n / 256) ++ le k m) (div-div-eq-div-mul n 256 (256 ^ j) ∙ ap (λ (d : ℕ). n / d) (sym (pow-succ' 256 j))))
 
--- one byte more, as a loop puts it
-pub le_next : (i n rest : ℕ) → rest ≡ n / 256 ^ i → le (i + 1) n ≡ le i n ++ (rest % 256 ∷ [])
+-- the lowest k bytes of more
+le_take : (k j n : ℕ) → k ≤ j → take k (le j n) ≡ le k n
 unfolding le
-le_next i n rest e = le_add i 1 n ∙ ap (λ (x : ℕ). le i n ++ (x % 256 ∷ [])) (sym e)
+le_take zero j n h = refl
+le_take (suc k) zero n h = absurd (omega arith)
+le_take (suc k) (suc j) n h = ap (λ (t : List ℕ). n % 256 ∷ t) (le_take k j (n / 256) (omega arith))
 
-pub rest_next : (i n rest : ℕ) → rest ≡ n / 256 ^ i → rest / 256 ≡ n / 256 ^ (i + 1)
-rest_next i n rest e =
-    ap (λ (x : ℕ). x / 256) e ∙ div-div-eq-div-mul n (256 ^ i) 256 ∙ ap (λ (d : ℕ). n / d) (sym (ap (λ (j : ℕ). 256 ^ j) (add-one i) ∙ pow-suc 256 i))
+-- the bytes of a limb, as the library takes them
+low_first : (i k n : ℕ) → bytes_low_first i k n ≡ le k (n / 256 ^ i)
+unfolding le
+low_first i zero n = refl
+low_first i (suc k) n =
+    ap₂ (λ (b : ℕ) (t : List ℕ). b ∷ t) (byte_is i)
+    (low_first (suc i) k n ∙ ap (le k) (sym (div-div-eq-div-mul n (256 ^ i) 256 ∙ ap (λ (d : ℕ). n / d) (sym (pow-suc 256 i)))))
+  where
+    byte_is : (i : ℕ) → byte_at i n ≡ n / 256 ^ i % 256
+    byte_is zero = ap (λ (x : ℕ). x % 256) (sym (ap (λ (d : ℕ). n / d) (pow-zero 256) ∙ div-one n))
+    byte_is (suc i) = refl
+
+pub limb_bytes : (k n : ℕ) → k ≤ 8 → take k (to_le_bytes w64 n) ≡ le k n
+limb_bytes k n h = ap (take k) (low_first 0 8 n ∙ ap (le 8) (ap (λ (d : ℕ). n / d) (pow-zero 256) ∙ div-one n)) ∙ le_take k 8 n h
 
 pub two_limbs : (h l : ℕ) → l < 2 ^ 64 → le 16 (h * 2 ^ 64 + l) ≡ le 8 l ++ le 8 h
 two_limbs h l k =
@@ -112,14 +129,20 @@ number_add t k (suc j) p h =
     let m : 256 ^ j * 256 * q ≡ 256 * (256 ^ j * q) = ap (λ (x : ℕ). x * q) (mul_comm (256 ^ j) 256) ∙ mul_assoc 256 (256 ^ j) q in
     rw (a, b, number_front t p (j + k) (omega arith), number_front t p j (omega arith), pow-suc 256 j, number_add t k j (p + 1) (omega arith), m) (omega arith)
 
-pub number_two : (t : List ℕ) (p : ℕ) → p + 2 ≤ length t → get_or t p 0 + 256 * get_or t (p + 1) 0 ≡ number_at 2 t p
-number_two t p h = omega (arith, number_front t p 1 (omega arith), number_front t (p + 1) 0 (omega arith), number_none t (p + 1 + 1))
+-- the number that the library reads in k + 1 bytes
+summed : (b : List ℕ) (k : ℕ) → suc k ≤ length b → sum_through (λ i. byte_worth i (get_or b i 0)) k ≡ number_at (suc k) b 0
+summed b zero h = sym (number_front b 0 0 (omega arith) ∙ rw (number_none b (0 + 1)) (omega arith))
+summed b (suc k) h =
+    let one : number_at 1 b (suc k) ≡ get_or b (suc k) 0 = number_front b (suc k) 0 (omega arith) ∙ rw (number_none b (suc k + 1)) (omega arith) in
+    let more : number_at (suc k + 1) b 0 ≡ number_at (suc k) b 0 + 256 ^ suc k * number_at 1 b (0 + suc k) = number_add b 1 (suc k) 0 (omega arith) in
+    let a : suc k + 1 ≡ suc (suc k) = omega arith in
+    let z : 0 + suc k ≡ suc k = omega arith in
+    sym (rw (a, z, one) at more ∙ ap₂ ◌+◌ (sym (summed b k (omega arith))) (mul_comm (256 ^ suc k) (get_or b (suc k) 0)))
 
-pub number_four : (t : List ℕ) (p : ℕ) → p + 4 ≤ length t → number_at 2 t p + 65536 * number_at 2 t (p + 2) ≡ number_at 4 t p
-number_four t p h = omega (arith, number_add t 2 2 p (omega arith))
-
-pub number_eight : (t : List ℕ) (p : ℕ) → p + 8 ≤ length t → number_at 4 t p + 4294967296 * number_at 4 t (p + 4) ≡ number_at 8 t p
-number_eight t p h = omega (arith, number_add t 4 4 p (omega arith))
+pub read_at : (t b : List ℕ) (p k : ℕ) → p + suc k ≤ length t → b ≡ take (suc k) (drop p t) → sum_through (λ i. byte_worth i (get_or b i 0)) k ≡ number_at (suc k) t p
+read_at t b p k h e =
+    let size : length b ≡ suc k = ap length e ∙ part_size t p (suc k) h in
+    summed b k (omega arith) ∙ ap number (take_all (suc k) b (omega arith) ∙ e)
 
 pub number_sixteen : (t : List ℕ) (p : ℕ) → p + 16 ≤ length t → number_at 8 t (p + 8) * 2 ^ 64 + number_at 8 t p ≡ number_at 16 t p
 number_sixteen t p h = omega (arith, number_add t 8 8 p (omega arith))
@@ -127,18 +150,25 @@ number_sixteen t p h = omega (arith, number_add t 8 8 p (omega arith))
 pub number_limbs : (t : List ℕ) (p h l : ℕ) → p + 16 ≤ length t → h ≡ number_at 8 t (p + 8) → l ≡ number_at 8 t p → h * 2 ^ 64 + l ≡ number_at 16 t p
 number_limbs t p h l k e f = rw (e, f) (number_sixteen t p k)
 
--- a reader that may be asked for bytes past the end: the test is b
-pub number_in_lem : (k : ℕ) (t : List ℕ) (p r : ℕ) (b : Bool) → b ≡ leb (p + k) (length t) → b ≡ true → r ≡ number_at k t p → r ≡ number_in k t p
-number_in_lem k t p r b e f g = g ∙ sym (ap (λ (x : Bool). cond x (number_at k t p) 0) (sym e ∙ f))
+-- the two limbs in sixteen bytes
+pub limbs_read : (t b h l : List ℕ) (p : ℕ) → p + 16 ≤ length t → b ≡ take 16 (drop p t) → h ≡ drop (length b - 8) b → l ≡ take 8 b
+    → from_le_bytes w64 h * 2 ^ 64 + from_le_bytes w64 l ≡ number_at 16 t p
+limbs_read t b h l p k e eh el =
+    let size : length b ≡ 16 = ap length e ∙ part_size t p 16 k in
+    let at : length b - 8 ≡ 8 = omega arith in
+    let high : h ≡ take 8 (drop 8 b) = eh ∙ ap (λ (i : ℕ). drop i b) at ∙ sym (take_all 8 (drop 8 b) (omega (arith, length-drop 8 b))) in
+    number_limbs b 0 _ _ (omega arith) (read_at b h 8 7 (omega arith) high) (read_at b l 0 7 (omega arith) el)
+    ∙ ap number (take_all 16 b (omega arith) ∙ e)
 
-pub number_out : (k : ℕ) (t : List ℕ) (p : ℕ) (b : Bool) → b ≡ leb (p + k) (length t) → b ≡ false → 0 ≡ number_in k t p
-number_out k t p b e f = sym (ap (λ (x : Bool). cond x (number_at k t p) 0) (sym e ∙ f))
+-- a reader that may be asked for bytes past the end
+pub number_here : (k : ℕ) (t : List ℕ) (p r : ℕ) → p + k ≤ length t → r ≡ number_at k t p → r ≡ number_in k t p
+number_here k t p r h e = e ∙ sym (ap (λ (x : Bool). cond x (number_at k t p) 0) (le-leb (p + k) (length t) h))
 
-pub wide_in_lem : (t : List ℕ) (p : ℕ) (z : ℤ) (b : Bool) → b ≡ leb (p + 16) (length t) → b ≡ true → z ≡ integer_at t p → z ≡ wide_in t p
-wide_in_lem t p z b e f g = g ∙ sym (ap (λ (x : Bool). cond x (integer_at t p) (pos 0)) (sym e ∙ f))
+pub wide_here : (t : List ℕ) (p : ℕ) (z : ℤ) → p + 16 ≤ length t → z ≡ integer_at t p → z ≡ wide_in t p
+wide_here t p z h e = e ∙ sym (ap (λ (x : Bool). cond x (integer_at t p) (pos 0)) (le-leb (p + 16) (length t) h))
 
-pub wide_out : (t : List ℕ) (p : ℕ) (b : Bool) → b ≡ leb (p + 16) (length t) → b ≡ false → pos 0 ≡ wide_in t p
-wide_out t p b e f = sym (ap (λ (x : Bool). cond x (integer_at t p) (pos 0)) (sym e ∙ f))
+pub wide_gone : (t : List ℕ) (p : ℕ) → length t < p + 16 → pos 0 ≡ wide_in t p
+wide_gone t p h = sym (ap (λ (x : Bool). cond x (integer_at t p) (pos 0)) (lt-leb (p + 16) (length t) h))
 
 -- the 16 bytes of an integer, and back
 pub fits_of : (z : ℤ) → nat_abs z < 2 ^ 127 → SFits w128 z

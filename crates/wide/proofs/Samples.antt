@@ -1,6 +1,7 @@
 -- The integer at the ends of its range and in document 01's cases, computed. Assumes nothing.
+use Rattle.std.specs.Prelude.{Some, None}
 use Rattle.std.proofs.Common.{◌≡◌, ℕ, ◌+◌, ◌-◌, ◌^◌, Bool, true, false, List, [], ◌∷◌, map, replicate, pos, negsuc, refl}
-use Rattle.wide.specs.Value.{is, none, integer_of, Fits, Over, grown}
+use Rattle.wide.specs.Value.{is, none, integer_of, grown}
 use Rattle.wide.specs.Text.{digits, is_lowest, integer_text}
 use Rattle.wide.specs.Bytes.{le, wide_bytes}
 
@@ -30,7 +31,7 @@ integers = refl
 
 -- 2^128-1 is held, one more is not
 pub growths : map grown (2 ^ 64 ∷ (2 ^ 128 - 1) ∷ 2 ^ 128 ∷ [])
-    ≡ Fits (record { hi = 1; lo = 0 }) ∷ Fits (record { hi = 2 ^ 64 - 1; lo = 2 ^ 64 - 1 }) ∷ Over ∷ []
+    ≡ Some (record { hi = 1; lo = 0 }) ∷ Some (record { hi = 2 ^ 64 - 1; lo = 2 ^ 64 - 1 }) ∷ None ∷ []
 unfolding grown
 growths = refl
 

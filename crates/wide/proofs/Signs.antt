@@ -1,30 +1,14 @@
 -- A limb's two readings, with and without a sign, and what negation and the sign are on two limbs. Assumes nothing.
-use Rattle.std.proofs.Common.{◌≡◌, ℕ, suc, ◌+◌, ◌-◌, ◌*◌, ◌%◌, ◌^◌, ◌<◌, ◌≤◌, Bool, true, false, ◌⊎◌, ℤ, pos, negsuc, nat_abs, sym, refl, ap, ◌∙◌, inl, inr, ⊎_elim, lt_of_lt_of_le, add-suc, mod-eq_of_lt, suc-mul, add-mul, le-add_left, arith, w64, SFits, to_z, of_z, ltb-true, le-ltb}
+use Rattle.std.proofs.Common.{◌≡◌, ℕ, suc, ◌+◌, ◌-◌, ◌*◌, ◌%◌, ◌^◌, ◌<◌, ◌≤◌, Bool, true, false, ◌⊎◌, ℤ, pos, negsuc, nat_abs, sym, refl, ap, ◌∙◌, inl, inr, ⊎_elim, lt_of_lt_of_le, add-suc, mod-eq_of_lt, pos_of_ne-zero, suc-mul, add-mul, le-add_left, arith, w64, SFits, to_z, of_z, ltb-true, le-ltb}
+use Rattle.std.specs.Bool.{FalseIff}
+use Rattle.std.specs.Int.{from_bool}
 use lib.Arith.{digits_lt, le-zero}
-use lib.Signed.{mag, lt_z}
+use lib.Signed.{lt_z}
 use mir.Syntax.{w128}
-use mir.ValLaws.{to_z-of_z, to_z_pos, to_z-neg}
+use mir.ValLaws.{to_z_pos, to_z-neg}
 use Rattle.wide.specs.Value.{value_of}
 use Rattle.wide.proofs.TwoLimbs.{which}
 use Rattle.wide.proofs.Values.{value_pos, value_neg}
-
--- z below 0, as the machine tests it
-abbrev pub Below : ℤ → Bool → Type 0
-Below z b = lt_z (to_z w64 (of_z w64 z)) (pos 0) ≡ b
-
--- of a number below 0, the complement of its bits is its magnitude less 1
-pub flip : (z : ℤ) → SFits w64 z → Below z true → to_z w64 (18446744073709551615 - of_z w64 z) ≡ pos (mag z)
-flip (pos n) f b = let h : n < 0 = ltb-true n 0 (rw (to_z-of_z w64 (pos n) f) at b) in absurd (omega arith)
-flip (negsuc n) f b = let h : n < 2 ^ 63 = f.sfits in let e : 18446744073709551615 - (2 ^ 64 - suc n) ≡ n = omega arith in ap (to_z w64) e ∙ to_z_pos w64 n h
-
-pub below_bits : (z : ℤ) → SFits w64 z → Below z true → 18446744073709551615 - mag z ≡ of_z w64 z
-below_bits (pos n) f b = let h : n < 0 = ltb-true n 0 (rw (to_z-of_z w64 (pos n) f) at b) in absurd (omega arith)
-below_bits (negsuc n) f b = let h : n < 2 ^ 63 = f.sfits in omega arith
-
--- any other number is its bits
-pub keep : (z : ℤ) → SFits w64 z → Below z false → to_z w64 (of_z w64 z) ≡ pos (of_z w64 z)
-keep (pos n) f b = to_z-of_z w64 (pos n) f
-keep (negsuc n) f b = let h : true ≡ false = (rw (to_z-of_z w64 (negsuc n) f) at b) in let z : ◌≡◌ {A = ℕ} 0 1 = cc in absurd (omega arith)
 
 -- two numbers of two digits whose low digits make up a whole base, and the high ones all but one of it
 pub whole : (B h l k m : ℕ) → h + k + 1 ≡ B → l + m ≡ B → (h * B + l) + (k * B + m) ≡ B * B
@@ -98,6 +82,11 @@ negated_law h l h' l' g b bh bl bh' bl' bg el eg eh (inl p) = ⊎_elim none some
         let e : h' * 2 ^ 64 + l' ≡ 0 = no_limbs h' l' (wraps_none h' b g bh' eh p.1 ∙ wraps_zero g h bg eg (le-zero q)) zl in
         let f : h * 2 ^ 64 + l ≡ 0 = no_limbs h l (le-zero q) p.0 in
         e ∙ sym (ap (λ (x : ℕ). (2 ^ 128 - x) % 2 ^ 128) f)
+
+-- the borrow, as the library tells of it
+pub borrowed : (l b : ℕ) (t : Bool) → FalseIff t (l ≤ 0) → b ≡ from_bool t → ((l ≡ 0) × (b ≡ 0)) ⊎ ((0 < l) × (b ≡ 1))
+borrowed l b false f e = inl (omega arith, e)
+borrowed l b true f e = inr (pos_of_ne-zero (λ z. f (omega arith)), e)
 
 -- the sign is that of the high limb
 pub sign : (z : ℤ) (l : ℕ) → l < 2 ^ 64 → lt_z z (pos 0) ≡ lt_z (value_of z l) (pos 0)

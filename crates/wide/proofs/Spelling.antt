@@ -1,7 +1,9 @@
 -- Counting digits and putting them from the last to the first: the laws of the loops. Assumes nothing.
-use Rattle.std.proofs.Common.{◌≡◌, ℕ, suc, ◌+◌, ◌-◌, ◌*◌, ◌/◌, ◌%◌, ◌^◌, ◌<◌, ◌≤◌, Bool, true, false, List, [], ◌∷◌, ◌++◌, length, drop, set, ℤ, pos, negsuc, nat_abs, sym, refl, ap, ◌∙◌, subst, append_assoc, lt_of_le_of_lt, div-le_self, arith, length-append, length-set, drop-cons, get_or-set_same, drop-set-lt, ltb-true}
+use Rattle.std.proofs.Common.{◌≡◌, ℕ, zero, suc, ◌+◌, ◌-◌, ◌*◌, ◌/◌, ◌%◌, ◌^◌, ◌<◌, ◌≤◌, Bool, true, false, List, [], ◌∷◌, ◌++◌, length, drop, set, ℤ, pos, negsuc, nat_abs, sym, refl, ap, ◌∙◌, subst, append_assoc, ⊎_elim, lt_of_le_of_lt, div-le_self, pow-suc, lit<, arith, length-append, length-set, drop-cons, get_or-set_same, drop-set-lt, ltb-true}
+use native.Mathlib.Nat.{one-le-pow}
 use lib.Arith.{digits_lt}
 use lib.Signed.{lt_z}
+use Rattle.std.proofs.lemmas.Bool.{cases_lt}
 use Rattle.lists.specs.Over.{over}
 use Rattle.wide.specs.Text.{digits_of, decimal}
 use Rattle.wide.proofs.Decimals.{text_one, text_more, text_low}
@@ -34,6 +36,15 @@ one_less v q h l e = rw (e, text_more v h l) (length-append (digits_of (v / 10))
 
 pub count_one : (v : ℕ) → v < 10 → length (digits_of v) ≡ 1
 count_one v h = ap length (text_one v h)
+
+-- from a power of ten to the next
+pub count_power : (k v : ℕ) → 10 ^ k ≤ v → v < 10 * 10 ^ k → v < 2 ^ 128 → length (digits_of v) ≡ k + 1
+count_power zero v h l b = count_one v (omega arith)
+count_power (suc k) v h l b =
+    let h' : 10 ^ k * 10 ≤ v = rw (pow-suc 10 k) at h in
+    let l' : v < 10 * (10 ^ k * 10) = rw (pow-suc 10 k) at l in
+    let one : 0 < 10 ^ k = one-le-pow k 10 (lit< tt) in
+    omega (arith, one_less v (v / 10) (omega arith) b refl, count_power k (v / 10) (omega arith) (omega arith) (tenth_lt v (v / 10) b refl))
 
 -- k digits are counted of `all`, and v has the others
 pub record Counted (all k v : ℕ) : Type 0 where
@@ -93,6 +104,13 @@ pub last : (want out : List ℕ) (n at v : ℕ) → Fill want out n at v → v <
 last want out n at v f h =
     let e : at ≡ 1 = f.size ∙ count_one v h in
     stored out 0 (48 + v) (omega (arith, f.room, f.long)) ∙ rw (e, text_one v h) at f.same
+
+-- the last digit is left where one place is
+pub more_left : {want out : List ℕ} {n at v : ℕ} → Fill want out n at v → 1 < at → 10 ≤ v
+more_left {v = v} f h = ⊎_elim (λ k. absurd (omega (arith, f.size, count_one v k))) (λ k. k) (cases_lt v 10)
+
+pub last_left : {want out : List ℕ} {n at v : ℕ} → Fill want out n at v → at ≤ 1 → v < 10
+last_left {v = v} f h = ⊎_elim (λ k. k) (λ k. absurd (omega (arith, f.size, one_less v (v / 10) k f.bound refl, text_low (v / 10)))) (cases_lt v 10)
 
 -- the digits left are those of the low limb
 pub room_low : (want out : List ℕ) (n at hi lo : ℕ) → Fill want out n at (hi * 2 ^ 64 + lo) → hi ≤ 0 → (at ≡ length (digits_of lo)) × (at ≤ length out)

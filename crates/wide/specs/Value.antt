@@ -1,13 +1,9 @@
 -- The integer of document 01, 'How source becomes tokens': what two limbs stand for, growth by a digit, and the sign rule.
-use Rattle.std.specs.Prelude.{ℕ, ◌+◌, ◌-◌, ◌*◌, ◌/◌, ◌%◌, ◌^◌, Bool, true, false, cond, ℤ, pos, ◌+ℤ◌, ◌*ℤ◌, ◌==◌, nat_lt}
+use Rattle.std.specs.Prelude.{ℕ, ◌+◌, ◌-◌, ◌*◌, ◌/◌, ◌%◌, ◌^◌, Bool, true, false, cond, ℤ, pos, ◌+ℤ◌, ◌*ℤ◌, ◌==◌, nat_lt, Option, Some, None}
 use Rattle.std.specs.Int.{w128}
 use Rattle.std.proofs.Common.{to_z}
 pub use Rattle.wide.specs.declared.Limbs.{Limbs}
 pub use Rattle.wide.specs.declared.Wide.{Wide}
-pub use Rattle.wide.specs.declared.Grown.{Grown}
-pub use Rattle.wide.specs.declared.Grown.TheVariants.{Fits, Over}
-pub use Rattle.wide.specs.declared.Signed.{Signed}
-pub use Rattle.wide.specs.declared.Signed.TheVariants.{Is, Refused}
 
 -- the number of two unsigned limbs
 unfoldable pub val : Limbs → ℕ
@@ -24,9 +20,9 @@ value_of h l = h *ℤ pos (2 ^ 64) +ℤ pos l
 abbrev pub value : Wide → ℤ
 value w = value_of w.hi w.lo
 
--- a number of at most 2^128-1, or the news that it is above
-unfoldable pub grown : ℕ → Grown
-grown v = cond (nat_lt v (2 ^ 128)) (Fits (split v)) Over
+-- a number of at most 2^128-1, or none
+unfoldable pub grown : ℕ → Option Limbs
+grown v = cond (nat_lt v (2 ^ 128)) (Some (split v)) None
 
 -- n's 128 bits with a sign: n modulo 2^128 in -2^127 .. 2^127-1
 abbrev pub reduced : ℕ → ℤ
@@ -41,7 +37,7 @@ unfoldable pub integer_of : Bool → ℕ → Integer
 integer_of false n = is (reduced n)
 integer_of true n = cond (n == 2 ^ 127) none (is (reduced ((2 ^ 128 - n) % 2 ^ 128)))
 
--- what each case of `Signed` stands for
-abbrev pub signed_of : Signed → Integer
-signed_of (Is w) = is (value w)
-signed_of Refused = none
+-- what the code hands out for it
+abbrev pub signed_of : Option Wide → Integer
+signed_of (Some w) = is (value w)
+signed_of None = none

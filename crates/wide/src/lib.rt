@@ -3,58 +3,32 @@
 
 mod digits;
 
-ghost use Rattle.std.specs.Prelude.{◌≡◌, ◌+◌, ◌-◌, ◌*◌, ◌/◌, ◌%◌, ◌^◌, ◌<◌, ◌≤◌, length, pos, int_lt, nat_le, unsigned_abs};
+ghost use Rattle.std.specs.Prelude.{◌≡◌, ◌+◌, ◌-◌, ◌*◌, ◌/◌, ◌%◌, ◌^◌, ◌<◌, ◌≤◌, length, take, drop, pos, int_lt, unsigned_abs, MatchOption};
 ghost use Rattle.std.specs.Int.{w64};
-ghost use Rattle.std.proofs.Common.{to_z, of_z};
+ghost use Rattle.std.proofs.Common.{of_z};
 ghost use Rattle.lists.specs.Over.{over, fitted};
 ghost use Rattle.wide.specs.Value.{val, value, grown, reduced, integer_of, signed_of};
 ghost use Rattle.wide.specs.Text.{decimal, is_lowest, integer_text};
 ghost use Rattle.wide.specs.Bytes.{le, number_at, number_in, wide_bytes, wide_in};
 
-#[derive(Clone, Copy)]
+// Two types: a high limb with a sign, as document 01 wants it, and one that has none yet.
+#[derive(Clone, Copy, Debug, PartialEq, Eq)]
 pub struct Limbs {
     pub hi: u64,
     pub lo: u64,
 }
 
-#[derive(Clone, Copy)]
+#[derive(Clone, Copy, Debug, PartialEq, Eq)]
 pub struct Wide {
     pub hi: i64,
     pub lo: u64,
 }
 
-#[derive(Clone, Copy)]
-pub enum Grown {
-    Fits(Limbs),
-    Over,
-}
-
-#[derive(Clone, Copy)]
-pub enum Signed {
-    Is(Wide),
-    Refused,
-}
-
-// The signed number with the bits of h.
-fn as_signed(h: u64) -> i64
-    ensures { result ≡ to_z w64 h }
-{
-    if h < 0x8000_0000_0000_0000 {
-        return h as i64;
-    }
-    let k = (u64::MAX - h) as i64;
-    !k
-}
-
-// The bits of z.
+// The bits of z: `cast_unsigned` by the name of a public promise.
 pub fn as_unsigned(z: i64) -> u64
     ensures { result ≡ of_z w64 z }
 {
-    if z < 0 {
-        let k = (!z) as u64;
-        return u64::MAX - k;
-    }
-    z as u64
+    z.cast_unsigned()
 }
 
 // The high limb alone has the sign.
@@ -68,80 +42,56 @@ pub fn negative(w: Wide) -> bool
 fn negated(n: Limbs) -> Limbs
     ensures { val result ≡ (2 ^ 128 - val n) % 2 ^ 128 }
 {
-    let lo = std::num::wrapping_sub_u64(0, n.lo);
-    let borrow = if n.lo == 0 { 0 } else { 1 };
-    let high = std::num::wrapping_sub_u64(0, n.hi);
-    let hi = std::num::wrapping_sub_u64(high, borrow);
+    let (lo, borrow) = 0u64.overflowing_sub(n.lo);
+    let hi = 0u64.wrapping_sub(n.hi).wrapping_sub(u64::from(borrow));
     Limbs { hi, lo }
 }
 
-// The 128 bits, read with a sign.
+// The 128 bits, read with a sign. No From: `magnitude` is the other way to read them.
 fn wide_of(n: Limbs) -> Wide
     ensures { value result ≡ reduced (val n) }
 {
     Wide {
-        hi: as_signed(n.hi),
+        hi: n.hi.cast_signed(),
         lo: n.lo,
     }
 }
 
+// The limbs of 2^127, and the bits of -2^127.
+const LOWEST: Limbs = Limbs {
+    hi: 0x8000_0000_0000_0000,
+    lo: 0,
+};
+
 // n or, with a minus, minus n, modulo 2^128; with a minus, 2^127 is refused.
-pub fn with_sign(n: Limbs, minus: bool) -> Signed
+pub fn with_sign(n: Limbs, minus: bool) -> Option<Wide>
     ensures { signed_of result ≡ integer_of minus (val n) }
 {
-    if minus {
-        if n.hi == 0x8000_0000_0000_0000 {
-            if n.lo == 0 {
-                return Signed::Refused;
-            }
-        }
-        let w = wide_of(negated(n));
-        return Signed::Is(w);
+    if !minus {
+        return Some(wide_of(n));
     }
-    let w = wide_of(n);
-    Signed::Is(w)
-}
-
-#[derive(Clone, Copy)]
-struct Part {
-    limb: u64,
-    carry: u64,
-}
-
-// One limb times a radix, plus what is carried in, by halves of 32 bits: no product is above 64 bits.
-fn times(x: u64, radix: u64, carry: u64) -> Part
-    requires { (radix ≤ 255) × (carry ≤ 255) }
-    ensures { (result.carry * 2 ^ 64 + result.limb ≡ x * radix + carry) × (result.carry ≤ 255) }
-{
-    let a = x % 0x1_0000_0000 * radix + carry;
-    let b = x / 0x1_0000_0000 * radix + a / 0x1_0000_0000;
-    Part {
-        limb: b % 0x1_0000_0000 * 0x1_0000_0000 + a % 0x1_0000_0000,
-        carry: b / 0x1_0000_0000,
+    if n == LOWEST {
+        return None;
     }
+    Some(wide_of(negated(n)))
 }
 
-// n times the radix, plus a digit. Below 2^56 one product of 64 bits holds it; most literals stay there.
-pub fn grow(n: Limbs, radix: u8, digit: u8) -> Grown
+// n times the radix, plus a digit, if 128 bits hold it. Below 2^56 one product of 64 bits holds it; most literals stay there.
+pub fn grow(n: Limbs, radix: u8, digit: u8) -> Option<Limbs>
     ensures { result ≡ grown (val n * radix + digit) }
 {
     let by = radix as u64;
     let plus = digit as u64;
-    if n.hi == 0 {
-        if n.lo < 0x100_0000_0000_0000 {
-            let lo = n.lo * by + plus;
-            return Grown::Fits(Limbs { hi: 0, lo });
-        }
+    if n.hi == 0 && n.lo < 0x100_0000_0000_0000 {
+        let lo = n.lo * by + plus;
+        return Some(Limbs { hi: 0, lo });
     }
-    let low = times(n.lo, by, plus);
-    let high = times(n.hi, by, low.carry);
-    if high.carry == 0 {
-        return Grown::Fits(Limbs {
-            hi: high.limb,
-            lo: low.limb,
-        });
+    let (lo, carry) = n.lo.carrying_mul(by, plus);
+    let (hi, over) = n.hi.carrying_mul(by, carry);
+    if over == 0 {
+        return Some(Limbs { hi, lo });
     }
-    Grown::Over
+    None
 }
 
 // The 128 bits that the magnitude of w has.
@@ -177,7 +127,7 @@ fn put_decimal(w: Wide, out: &mut [u8]) -> usize
         if out.len() <= k {
             return k + 1;
         }
-        out[0] = 45;
+        out[0] = b'-';
         digits::put_digits(n, k, &mut out[1..]);
         return k + 1;
     }
@@ -188,11 +138,11 @@ fn put_decimal(w: Wide, out: &mut [u8]) -> usize
     k
 }
 
-// w is -2^127, the one integer whose text is not decimal: with a minus sign it would not read back.
+// Whether w is -2^127, the one integer whose text is not decimal: with a minus sign it would not read back.
 fn is_lowest(w: Wide) -> bool
     ensures { result ≡ is_lowest (value w) }
 {
-    (w.hi == i64::MIN) & (w.lo == 0)
+    w == wide_of(LOWEST)
 }
 
 // How many bytes the text of w takes.
@@ -215,17 +165,14 @@ pub fn put_text(w: Wide, out: &mut [u8]) -> usize
     put_decimal(w, out)
 }
 
-// The k lowest bytes of x at the front of out, the least first.
-fn put_le(x: u64, k: usize, out: &mut [u8])
-    requires { k ≤ length out.old }
-    ensures { out.new ≡ over (le k x) out.old }
+// Puts the K lowest bytes of x at the front of out, the least first; a room that is too short stays as it was.
+fn put_le<const K: usize>(x: u64, out: &mut [u8])
+    requires { K ≤ 8 }
+    ensures { out.new ≡ fitted (le K x) out.old }
 {
-    let mut i = 0;
-    let mut rest = x;
-    while i < k {
-        out[i] = (rest % 256) as u8;
-        rest /= 256;
-        i += 1;
+    match out.first_chunk_mut::<K>() {
+        Some(front) => *front = *x.to_le_bytes().first_chunk::<K>().unwrap(),
+        None => {}
     }
 }
 
@@ -233,20 +180,14 @@ fn put_le(x: u64, k: usize, out: &mut [u8])
 pub fn put_u16(n: usize, out: &mut [u8])
     ensures { out.new ≡ fitted (le 2 n) out.old }
 {
-    if out.len() < 2 {
-        return;
-    }
-    put_le(n as u64, 2, out);
+    put_le::<2>(n as u64, out);
 }
 
 // Puts the four lowest bytes of n at the front of out; a room that is too short stays as it was.
 pub fn put_u32(n: usize, out: &mut [u8])
     ensures { out.new ≡ fitted (le 4 n) out.old }
 {
-    if out.len() < 4 {
-        return;
-    }
-    put_le(n as u64, 4, out);
+    put_le::<4>(n as u64, out);
 }
 
 // Puts the sixteen bytes of w's two's complement at the front of out; a room that is too short stays as it was.
@@ -256,72 +197,50 @@ pub fn put_wide(w: Wide, out: &mut [u8])
     if out.len() < 16 {
         return;
     }
-    put_le(w.lo, 8, out);
-    put_le(as_unsigned(w.hi), 8, &mut out[8..]);
+    put_le::<8>(w.lo, out);
+    put_le::<8>(w.hi.cast_unsigned(), &mut out[8..]);
 }
 
-// Whether the k bytes from `at` on are within a list of n; at + k is never formed, since it may wrap.
-fn holds(n: usize, at: usize, k: usize) -> bool
-    ensures { result ≡ nat_le (at + k) n }
+// The N bytes from `at` on, if so many are left.
+fn bytes_at<const N: usize>(t: &[u8], at: usize) -> Option<&[u8; N]>
+    ensures { MatchOption result (length t.now < at + N) (λ b. (at + N ≤ length t.now) × (b.now ≡ take N (drop at t.now))) }
 {
-    if n < k {
-        return false;
+    // The room is asked for once, and of N bytes whether they are N costs nothing: `t.get(at..)?.first_chunk()` made a print 6 % slower.
+    if t.len().checked_sub(N)? < at {
+        return None;
     }
-    at <= n - k
+    t[at..at + N].first_chunk()
 }
 
-// The number in two bytes.
-fn two(t: &[u8], at: usize) -> u64
-    requires { at + 2 ≤ length t.now }
-    ensures { (result ≡ number_at 2 t.now at) × (result < 65536) }
-{
-    t[at] as u64 + 256 * (t[at + 1] as u64)
-}
-
-// The number in four bytes.
-fn four(t: &[u8], at: usize) -> u64
-    requires { at + 4 ≤ length t.now }
-    ensures { (result ≡ number_at 4 t.now at) × (result < 4294967296) }
-{
-    two(t, at) + 0x1_0000 * two(t, at + 2)
-}
-
-// The number in eight bytes.
-fn eight(t: &[u8], at: usize) -> u64
-    requires { at + 8 ≤ length t.now }
-    ensures { result ≡ number_at 8 t.now at }
-{
-    four(t, at) + 0x1_0000_0000 * four(t, at + 4)
-}
-
-// The number in the two bytes from `at` on, or 0 where fewer are left.
+// The number in the two bytes from `at` on, or 0 where fewer are left: no Option, for `number_in` is the public promise. Beside `u32_at`, since `from_le_bytes` is of no trait.
 pub fn u16_at(t: &[u8], at: usize) -> usize
     ensures { result ≡ number_in 2 t.now at }
 {
-    if holds(t.len(), at, 2) {
-        return two(t, at) as usize;
+    match bytes_at(t, at) {
+        Some(bytes) => u16::from_le_bytes(*bytes) as usize,
+        None => 0,
     }
-    0
 }
 
 // The number in the four bytes from `at` on, or 0 where fewer are left.
 pub fn u32_at(t: &[u8], at: usize) -> usize
     ensures { result ≡ number_in 4 t.now at }
 {
-    if holds(t.len(), at, 4) {
-        return four(t, at) as usize;
+    match bytes_at(t, at) {
+        Some(bytes) => u32::from_le_bytes(*bytes) as usize,
+        None => 0,
     }
-    0
 }
 
 // The integer in the sixteen bytes from `at` on, or 0 where fewer are left.
 pub fn wide_at(t: &[u8], at: usize) -> Wide
     ensures { value result ≡ wide_in t.now at }
 {
-    if holds(t.len(), at, 16) {
-        let lo = eight(t, at);
-        let hi = eight(t, at + 8);
-        return wide_of(Limbs { hi, lo });
+    match bytes_at::<16>(t, at) {
+        Some(bytes) => wide_of(Limbs {
+            hi: u64::from_le_bytes(*bytes.last_chunk().unwrap()),
+            lo: u64::from_le_bytes(*bytes.first_chunk().unwrap()),
+        }),
+        None => Wide { hi: 0, lo: 0 },
     }
-    Wide { hi: 0, lo: 0 }
 }

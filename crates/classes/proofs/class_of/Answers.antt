@@ -5,4 +5,4 @@ use Rattle.classes.proofs.Rules.{rules_of}
 use Rattle.classes.proofs.class_of.Goals as goal
 
 pub returns : goal.returns
-returns c = c.named.ensures ∙ ap named c.number_of.ensures ∙ (rules_of c.args.b (search rules)).class
+returns c = c.from.ensures ∙ ap named c.number_of.ensures ∙ (rules_of c.args.b (search rules)).class

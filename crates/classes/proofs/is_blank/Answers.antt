@@ -1,7 +1,7 @@
--- `classes::is_blank`: the comparisons and the class agree on every byte.
+-- `classes::is_blank`: the number and the class agree on every byte.
 use Rattle.std.proofs.Common.{rules}
 use Rattle.classes.proofs.Rules.{rules_of}
 use Rattle.classes.proofs.is_blank.Goals as goal
 
 pub returns : goal.returns
-returns c = (rules_of c.args.b (search rules)).blank_is
+returns c = rw c.number_of.ensures (rules_of c.args.b (search rules)).number_blank

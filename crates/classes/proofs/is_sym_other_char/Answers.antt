@@ -1,7 +1,7 @@
--- `classes::is_sym_other_char`: the comparisons and the class agree on every byte.
+-- `classes::is_sym_other_char`: the number and the class agree on every byte.
 use Rattle.std.proofs.Common.{rules}
 use Rattle.classes.proofs.Rules.{rules_of}
 use Rattle.classes.proofs.is_sym_other_char.Goals as goal
 
 pub returns : goal.returns
-returns c = (rules_of c.args.b (search rules)).goes_on_is
+returns c = rw c.number_of.ensures (rules_of c.args.b (search rules)).number_goes_on

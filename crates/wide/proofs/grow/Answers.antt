@@ -1,5 +1,5 @@
 -- `wide::grow`: one product below 2^56, else two with a carry; the last carry says whether 128 bits hold the number.
-use Rattle.std.proofs.Common.{arith, rules}
+use Rattle.std.proofs.Common.{◌≡◌, ℕ, ◌+◌, ◌∙◌, add_comm, arith, rules}
 use Rattle.wide.specs.Value.{val}
 use Rattle.wide.proofs.Growth.{fits, over, short, short_val, fitting, above}
 use Rattle.wide.proofs.grow.Goals as goal
@@ -21,20 +21,24 @@ returns-then-n-lt72057594037927936 c =
     fits _ _ (omega arith) (short a.n.lo a.radix a.digit c.if-n-lt72057594037927936.true (omega arith) (omega arith))
     (short_val a.n.hi a.n.lo a.radix a.digit c.if-n-eq0.true)
 
-pub returns-then-high-eq0 : goal.returns-then-high-eq0
+-- what the library's method says, its high part first
+turned : (a b c : ℕ) → a + b ≡ c → b + a ≡ c
+turned a b c e = add_comm b a ∙ e
+
+pub returns-then-over-eq0 : goal.returns-then-over-eq0
 unfolding val
-returns-then-high-eq0 c =
+returns-then-over-eq0 c =
     let a = c.args in
-    let low = c.times-low in
-    let high = c.times-high in
+    let low = c.carrying_mul-lo in
+    let high = c.carrying_mul-hi in
     fits _ _ (search rules) (search rules)
-    (fitting a.n.hi a.n.lo a.radix a.digit low.result.carry low.result.limb high.result.carry high.result.limb low.ensures.0 high.ensures.0 c.if-high-eq0.true)
+    (fitting a.n.hi a.n.lo a.radix a.digit low.result.1 low.result.0 high.result.1 high.result.0 (turned _ _ _ low.ensures) (turned _ _ _ high.ensures) c.if-over-eq0.true)
 
 pub returns : goal.returns
 unfolding val
 returns c =
     let a = c.args in
-    let low = c.times-low in
-    let high = c.times-high in
+    let low = c.carrying_mul-lo in
+    let high = c.carrying_mul-hi in
     over _
-    (above a.n.hi a.n.lo a.radix a.digit low.result.carry low.result.limb high.result.carry high.result.limb low.ensures.0 high.ensures.0 c.if-high-eq0.false)
+    (above a.n.hi a.n.lo a.radix a.digit low.result.1 low.result.0 high.result.1 high.result.0 (turned _ _ _ low.ensures) (turned _ _ _ high.ensures) c.if-over-eq0.false)

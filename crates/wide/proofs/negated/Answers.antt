@@ -1,16 +1,14 @@
 -- `wide::negated`: both ways of the borrow, by one law of two limbs.
-use Rattle.std.proofs.Common.{◌≡◌, ◌<◌, ◌⊎◌, inl, inr, arith}
+use Rattle.std.proofs.Common.{ℕ, ◌+◌, ◌-◌, ◌%◌, ◌^◌, arith}
 use Rattle.wide.specs.Value.{val}
-use Rattle.wide.proofs.Signs.{negated_law}
+use Rattle.wide.proofs.Signs.{negated_law, borrowed}
 use Rattle.wide.proofs.negated.Goals as goal
-use Rattle.wide.proofs.negated.Goals.{then-n-eq0, else-n-eq0}
 
 pub returns : goal.returns
 unfolding val
 returns c =
-    let a = c.args in
-    let b : ((a.n.lo ≡ 0) × (c.if-n-eq0.borrow ≡ 0)) ⊎ ((0 < a.n.lo) × (c.if-n-eq0.borrow ≡ 1)) =
-    elim c.if-n-eq0.branch [ then-n-eq0 w ↦ inl (w.if-n-eq0.true, w.borrow-is) | else-n-eq0 w ↦ inr (omega arith, w.borrow-is) ] in
-    negated_law a.n.hi a.n.lo c.wrapping_sub_u64-hi.result c.wrapping_sub_u64-lo.result
-    c.wrapping_sub_u64-high.result c.if-n-eq0.borrow (omega arith) (omega arith) (omega arith) (omega arith) (omega arith)
-    c.wrapping_sub_u64-lo.ensures.value c.wrapping_sub_u64-high.ensures.value c.wrapping_sub_u64-hi.ensures.value b
+    let n = c.args.n in
+    let low = c.overflowing_sub-lo in
+    let high : ℕ = (0 + (2 ^ 64 - n.hi)) % 2 ^ 64 in
+    negated_law n.hi n.lo ((high + (2 ^ 64 - c.from.result)) % 2 ^ 64) low.result.0 high c.from.result (omega arith) (omega arith) (omega arith) (omega arith) (omega arith)
+    low.ensures.value (omega arith) (omega arith) (borrowed n.lo c.from.result low.result.1 low.ensures.overflow c.from.ensures)

@@ -1,17 +1,12 @@
--- `wide::put_le`: i bytes stand at the front, and the rest of x is shifted down by as many. The measure is the bytes left.
-use Rattle.std.proofs.Common.{arith}
-use Rattle.lists.proofs.Writing.{wrote_length}
-use Rattle.wide.proofs.Putting.{go_none, go_one, go_all}
+-- `wide::put_le`: the lowest bytes of the limb, where there is room.
+use Rattle.std.proofs.Common.{take, ap, ◌∙◌}
+use Rattle.wide.proofs.Putting.{low_put, low_none}
 use Rattle.wide.proofs.put_le.Goals as goal
 
-pub loop-i-init : goal.loop-i-init
-loop-i-init c = go_none _ _ _ c.requires
+pub returns-in-Some : goal.returns-in-Some
+returns-in-Some g c =
+    let chunk = rw c.unwrap.ensures at c.first_chunk.ensures.cases in
+    low_put g.row.K c.args.x _ c.args.out.now c.requires c.in-Some.ensures.cases.enough (chunk.same ∙ ap (take g.row.K) c.to_le_bytes.ensures)
 
-pub bounds-out-i : goal.bounds-out-i
-bounds-out-i c = omega (arith, wrote_length c.loop-i.invariant.wrote, c.loop-i.invariant.room, c.loop-i-test.true)
-
-pub loop-i-preserved : goal.loop-i-preserved
-loop-i-preserved c = go_one _ _ _ _ _ _ c.loop-i.invariant c.loop-i-test.true
-
-pub returns : goal.returns
-returns c = go_all _ _ _ _ _ _ c.loop-i.invariant c.loop-i-test.false
+pub returns-in-None : goal.returns-in-None
+returns-in-None g c = low_none g.row.K c.args.x c.args.out.now c.in-None.ensures.cases

@@ -1,17 +1,9 @@
--- `wide::u16_at`: the bytes are read only where the test finds them.
-use Rattle.std.proofs.Common.{sym, ◌∙◌, leb-true}
-use Rattle.wide.proofs.Numbers.{number_in_lem, number_out}
+-- `wide::u16_at`: the bytes that are there.
+use Rattle.std.proofs.Common.{◌∙◌}
+use Rattle.wide.proofs.Numbers.{number_here, read_at}
 use Rattle.wide.proofs.u16_at.Goals as goal
 
-pub two-requires : goal.two-requires
-two-requires c = leb-true _ _ (sym c.holds.ensures ∙ c.if-holds.true)
-
-pub returns-then-holds : goal.returns-then-holds
-returns-then-holds c =
-    let a = c.args in
-    number_in_lem 2 a.t.now a.at _ _ c.holds.ensures c.if-holds.true c.two.ensures.0
-
-pub returns : goal.returns
-returns c =
-    let a = c.args in
-    number_out 2 a.t.now a.at _ c.holds.ensures c.if-holds.false
+pub returns-in-Some : goal.returns-in-Some
+returns-in-Some c =
+    let e = c.in-Some.ensures in
+    number_here 2 c.args.t.now c.args.at _ e.0 (c.from_le_bytes.ensures ∙ read_at c.args.t.now _ c.args.at 1 e.0 e.1)

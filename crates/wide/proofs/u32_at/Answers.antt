@@ -1,17 +1,9 @@
--- `wide::u32_at`: the bytes are read only where the test finds them.
-use Rattle.std.proofs.Common.{sym, ◌∙◌, leb-true}
-use Rattle.wide.proofs.Numbers.{number_in_lem, number_out}
+-- `wide::u32_at`: the bytes that are there.
+use Rattle.std.proofs.Common.{◌∙◌}
+use Rattle.wide.proofs.Numbers.{number_here, read_at}
 use Rattle.wide.proofs.u32_at.Goals as goal
 
-pub four-requires : goal.four-requires
-four-requires c = leb-true _ _ (sym c.holds.ensures ∙ c.if-holds.true)
-
-pub returns-then-holds : goal.returns-then-holds
-returns-then-holds c =
-    let a = c.args in
-    number_in_lem 4 a.t.now a.at _ _ c.holds.ensures c.if-holds.true c.four.ensures.0
-
-pub returns : goal.returns
-returns c =
-    let a = c.args in
-    number_out 4 a.t.now a.at _ c.holds.ensures c.if-holds.false
+pub returns-in-Some : goal.returns-in-Some
+returns-in-Some c =
+    let e = c.in-Some.ensures in
+    number_here 4 c.args.t.now c.args.at _ e.0 (c.from_le_bytes.ensures ∙ read_at c.args.t.now _ c.args.at 3 e.0 e.1)

@@ -1,41 +1,20 @@
--- `wide::wide_at`: two limbs of eight bytes, read only where the test finds sixteen.
-use Rattle.std.proofs.Common.{◌+◌, ◌≤◌, length, sym, ap, ◌∙◌, arith, to_z, leb-true}
+-- `wide::wide_at`: two limbs of eight bytes, where sixteen are there.
+use Rattle.std.proofs.Common.{◌+◌, ◌*◌, ◌^◌, ap, ap₂, ◌∙◌, to_z, ℕ}
 use mir.Syntax.{w128}
 use Rattle.wide.specs.Value.{val, value_of}
-use Rattle.wide.proofs.Numbers.{number_limbs, wide_in_lem, wide_out}
+use Rattle.wide.proofs.Numbers.{limbs_read, wide_here, wide_gone}
 use Rattle.wide.proofs.wide_at.Goals as goal
 
-pub eight-lo-requires : goal.eight-lo-requires
-eight-lo-requires c =
-    let a = c.args in
-    let h : a.at + 16 ≤ length a.t.now = leb-true _ _ (sym c.holds.ensures ∙ c.if-holds.true) in
-    omega arith
-
-pub overflow_add-at : goal.overflow_add-at
-overflow_add-at c =
-    let p = c in
-    let a = p.args in
-    let h : a.at + 16 ≤ length a.t.now = leb-true _ _ (sym c.holds.ensures ∙ c.if-holds.true) in
-    omega arith
-
-pub eight-hi-requires : goal.eight-hi-requires
-eight-hi-requires c =
-    let a = c.args in
-    let h : a.at + 16 ≤ length a.t.now = leb-true _ _ (sym c.holds.ensures ∙ c.if-holds.true) in
-    omega arith
-
-pub returns-then-holds : goal.returns-then-holds
+pub returns-in-Some : goal.returns-in-Some
 unfolding val
-returns-then-holds c =
-    let a = c.args in
-    let t = c.holds.ensures in
-    let s = c.if-holds.true in
-    let h : a.at + 16 ≤ length a.t.now = leb-true _ _ (sym t ∙ s) in
-    wide_in_lem a.t.now a.at _ _ t s
-    (c.wide_of.ensures ∙ ap (to_z w128) (number_limbs a.t.now a.at _ _ h c.eight-hi.ensures c.eight-lo.ensures))
+returns-in-Some c =
+    let e = c.in-Some.ensures in
+    let high = rw c.unwrap.ensures at c.last_chunk.ensures.cases in
+    let low = rw c.unwrap-in-Some.ensures at c.first_chunk.ensures.cases in
+    wide_here c.args.t.now c.args.at _ e.0
+    (c.wide_of.ensures ∙ ap (to_z w128) (ap₂ (λ (h l : ℕ). h * 2 ^ 64 + l) c.from_le_bytes.ensures c.from_le_bytes-in-Some.ensures
+    ∙ limbs_read c.args.t.now c.in-Some.bytes.now _ _ c.args.at e.0 e.1 high.1.same low.same))
 
-pub returns : goal.returns
+pub returns-in-None : goal.returns-in-None
 unfolding value_of
-returns c =
-    let a = c.args in
-    wide_out a.t.now a.at _ c.holds.ensures c.if-holds.false
+returns-in-None c = wide_gone c.args.t.now c.args.at c.in-None.ensures

@@ -9,5 +9,5 @@ pub returns : goal.returns
 unfolding val
 returns c =
     let n = c.args.n in
-    ap (λ (z : ℤ). value_of z n.lo) (to_z-of_z w64 c.as_signed.result (record { sfits = c.as_signed.type_inv }) ∙ c.as_signed.ensures)
+    ap (λ (z : ℤ). value_of z n.lo) (to_z-of_z w64 c.cast_signed.result (record { sfits = c.cast_signed.type_inv }) ∙ c.cast_signed.ensures)
     ∙ joined n.hi n.lo (omega arith) (omega arith)

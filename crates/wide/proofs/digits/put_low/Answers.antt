@@ -1,24 +1,22 @@
--- `wide::digits::put_low`: the digits left to put and those that stand make up the text. The measure is what is left of x.
+-- `wide::digits::put_low`: the digits left to put and those that stand make up the text.
 use Rattle.std.proofs.Common.{refl, arith}
-use Rattle.wide.proofs.Spelling.{begin, one_left, step, last, low_lt}
+use Rattle.wide.proofs.Spelling.{begin, one_left, more_left, last_left, step, last, low_lt}
 use Rattle.wide.proofs.digits.put_low.Goals as goal
 
-pub loop-rest-init : goal.loop-rest-init
-loop-rest-init c = begin _ _ _ (low_lt c.args.x (omega arith)) c.requires.0 c.requires.1
+pub loop-i-init : goal.loop-i-init
+loop-i-init c = begin _ _ _ (low_lt c.args.x (omega arith)) c.requires.0 c.requires.1
 
-pub overflow_sub-at : goal.overflow_sub-at
-overflow_sub-at c = one_left c.loop-rest.invariant
+pub loop-i-preserved : goal.loop-i-preserved
+loop-i-preserved c = step _ _ _ _ c.loop-i.rest _ _ c.loop-i.invariant (more_left c.loop-i.invariant c.loop-i-test.true) refl refl
 
-pub bounds-out-at : goal.bounds-out-at
-bounds-out-at c = omega (arith, one_left c.loop-rest.invariant, c.loop-rest.invariant.room, c.loop-rest.invariant.long)
+pub overflow_cast-out-2 : goal.overflow_cast-out-2
+overflow_cast-out-2 c = omega (arith, last_left c.loop-i.invariant c.loop-i-test.false)
 
-pub loop-rest-preserved : goal.loop-rest-preserved
-loop-rest-preserved c =
-    let l = c.loop-rest in
-    step _ _ _ _ l.rest _ _ l.invariant c.loop-rest-test.true refl refl
+pub overflow_add-out-2 : goal.overflow_add-out-2
+overflow_add-out-2 c = omega (arith, last_left c.loop-i.invariant c.loop-i-test.false)
 
 pub bounds-out-0 : goal.bounds-out-0
-bounds-out-0 c = omega (arith, one_left c.loop-rest.invariant, c.loop-rest.invariant.room, c.loop-rest.invariant.long)
+bounds-out-0 c = let i = c.loop-i.invariant in omega (arith, one_left i, i.room, i.long)
 
 pub returns : goal.returns
-returns c = last _ _ _ _ _ c.loop-rest.invariant c.loop-rest-test.false
+returns c = last _ _ _ _ _ c.loop-i.invariant (last_left c.loop-i.invariant c.loop-i-test.false)
