@@ -1,6 +1,7 @@
 -- A call over a piece, a close, and the state between them (document 01, 'Feeding in pieces').
-use Rattle.std.specs.Prelude.{ℕ, suc, List, [], ◌∷◌}
+use Rattle.std.specs.Prelude.{ℕ, suc, List, [], ◌∷◌, Result as CodeResult, Ok, Err}
 use Rattle.refusals.specs.Numbers.{fed_after_close}
+use Rattle.refusals.specs.declared.Refusal.{Refusal}
 use Rattle.refusals.specs.Result.{Result, ok, refused, refused_by}
 use Rattle.lexer.specs.Tokens.{Token, Answer, end, is, token_of}
 use Rattle.feeder.specs.Machine.{Mode, Blank, Turn, Go, Stay, Take, step, closing}
@@ -78,12 +79,12 @@ close_in (Refused r) p = fed (refused_by r) 0 (record { phase = Refused r; place
 unfoldable pub close_of : State → Fed
 close_of s = close_in s.phase s.place
 
--- document 01's number and values for each case of the answer's enum
-abbrev pub reply_of : CodeAnswer → Result Reply
-reply_of code.More = ok more
-reply_of code.End = ok finish
-reply_of (code.Token t s) = ok (ready (token_of t s))
-reply_of (code.Refused r) = refused_by r
+-- document 01's number and values for each case of the code's answer
+abbrev pub reply_of : CodeResult CodeAnswer Refusal → Result Reply
+reply_of (Ok code.More) = ok more
+reply_of (Ok code.End) = ok finish
+reply_of (Ok (code.Token t s)) = ok (ready (token_of t s))
+reply_of (Err r) = refused_by r
 
 -- what a call returned
 abbrev pub fed_of : CodeFed → Fed

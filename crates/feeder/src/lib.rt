@@ -4,20 +4,21 @@
 mod comments;
 mod glance;
 mod literals;
+mod rest;
 mod runs;
 
 ghost use Rattle.std.specs.Prelude.{◌≡◌};
 ghost use Rattle.lexer.specs.Tokens.{answer_of};
 ghost use Rattle.feeder.specs.Machine.{closing as closing_of};
-ghost use Rattle.feeder.specs.Feeding.{feed_of, close_of, fed_of, fresh_state, shut};
+ghost use Rattle.feeder.specs.Feeding.{feed_of, close_of, fed_of, fresh_state, live, dead, shut};
 
 use lexer::literal::Reading;
 use lexer::{Lexed, Token};
-use refusals::Refusal;
+use refusals::{Fault, Refusal};
 use wide::Limbs;
 
 // Half of `(;` or `;)` in a block comment.
-#[derive(Clone, Copy)]
+#[derive(Clone, Copy, Debug, PartialEq, Eq)]
 pub enum Half {
     Clear,
     Semi,
@@ -25,7 +26,7 @@ pub enum Half {
 }
 
 // What is held, from its start on.
-#[derive(Clone, Copy)]
+#[derive(Clone, Copy, Debug, PartialEq, Eq)]
 pub enum Mode {
     Blank,
     Line,
@@ -55,36 +56,58 @@ pub enum Mode {
     },
 }
 
-#[derive(Clone, Copy)]
+// Cases of its own and no Result or closure: the words of a host mean them, between calls too (theorem packed_states).
+#[derive(Clone, Copy, Debug, PartialEq, Eq)]
 pub enum Phase {
     Live(Mode),
     Closed,
     Refused(Refusal),
 }
 
-#[derive(Clone, Copy)]
+#[derive(Clone, Copy, Debug, PartialEq, Eq)]
 pub struct State {
     pub phase: Phase,
     // The bytes consumed so far.
     pub place: usize,
 }
 
-#[derive(Clone, Copy)]
+impl State {
+    // At work, in a mode.
+    fn live(mode: Mode, place: usize) -> Self
+        ensures { result ≡ live mode place }
+    {
+        State {
+            phase: Phase::Live(mode),
+            place,
+        }
+    }
+
+    // Refused for good.
+    fn refused(r: Refusal, place: usize) -> Self
+        ensures { result ≡ dead r.number r.place place }
+    {
+        State {
+            phase: Phase::Refused(r),
+            place,
+        }
+    }
+}
+
+#[derive(Clone, Copy, Debug, PartialEq, Eq)]
 pub enum Answer {
     More,
     End,
     // A token, and its start.
     Token(Token, usize),
-    Refused(Refusal),
 }
 
-#[derive(Clone, Copy)]
+#[derive(Clone, Copy, Debug, PartialEq, Eq)]
 pub struct Out {
-    pub answer: Answer,
+    pub answer: Result<Answer, Refusal>,
     pub used: usize,
 }
 
-#[derive(Clone, Copy)]
+#[derive(Clone, Copy, Debug, PartialEq, Eq)]
 pub struct Fed {
     pub out: Out,
     pub state: State,
@@ -93,13 +116,10 @@ pub struct Fed {
 pub fn fresh() -> State
     ensures { result ≡ fresh_state }
 {
-    State {
-        phase: Phase::Live(Mode::Blank),
-        place: 0,
-    }
+    State::live(Mode::Blank, 0)
 }
 
-fn answered(answer: Answer, used: usize, state: State) -> Fed
+fn answered(answer: Result<Answer, Refusal>, used: usize, state: State) -> Fed
     ensures { result ≡ record { out = record { answer = answer; used = used }; state = state } }
 {
     Fed {
@@ -109,23 +129,19 @@ fn answered(answer: Answer, used: usize, state: State) -> Fed
 }
 
 // What the source's end makes of a mode.
-fn closing(mode: Mode, place: usize) -> Lexed
+#[tactic(auto, unfolding(crate::specs::Machine::closing))]
+fn closing(mode: Mode, place: usize) -> Result<Lexed, Refusal>
     ensures { answer_of result ≡ closing_of mode place }
 {
     match mode {
-        Mode::Blank => Lexed::End,
-        Mode::Line => Lexed::End,
-        Mode::Opener { start } => Lexed::Token(Token::LParen, start),
-        Mode::Symbol { start } => Lexed::Token(Token::Symbol(lists::less(place, start)), start),
-        Mode::Sign { start } => lexer::literal::concluded(true, start, place, Reading::Empty),
-        Mode::Block {
+        Mode::Blank | Mode::Line => Ok(Lexed::End),
+        Mode::Opener { start } => Ok(Lexed::Token(Token::LParen, start)),
+        Mode::Symbol { start } => Ok(Lexed::Token(
+            Token::Symbol(place.saturating_sub(start)),
             start,
-            depth: _,
-            half: _,
-        } => Lexed::Refused(Refusal {
-            number: refusals::OPEN_COMMENT,
-            place: start,
-        }),
+        )),
+        Mode::Sign { start } => lexer::literal::concluded(true, start, place, Reading::Empty),
+        Mode::Block { start, .. } => Err(Fault::OpenComment.at(start)),
         Mode::Zero { start, minus } => lexer::literal::concluded(
             minus,
             start,
@@ -135,14 +151,14 @@ fn closing(mode: Mode, place: usize) -> Lexed
         Mode::Digits {
             start,
             minus,
-            radix: _,
             reading,
-        } => { lexer::literal::concluded(minus, start, place, reading) }
+            ..
+        } => lexer::literal::concluded(minus, start, place, reading),
     }
 }
 
-// The first close, by what the source's end makes of what is held.
-fn shut_by(last: Lexed, place: usize) -> Fed
+// The first close, by what the source's end makes of what is held. No From for the answer: each arm has a state of its own beside it.
+fn shut_by(last: Result<Lexed, Refusal>, place: usize) -> Fed
     ensures { fed_of result ≡ shut (answer_of last) place }
 {
     let closed = State {
@@ -150,46 +166,32 @@ fn shut_by(last: Lexed, place: usize) -> Fed
         place,
     };
     match last {
-        Lexed::End => answered(Answer::End, 0, closed),
-        Lexed::Token(t, start) => answered(Answer::Token(t, start), 0, closed),
-        Lexed::Refused(r) => answered(
-            Answer::Refused(r),
-            0,
-            State {
-                phase: Phase::Refused(r),
-                place,
-            },
-        ),
+        Ok(Lexed::End) => answered(Ok(Answer::End), 0, closed),
+        Ok(Lexed::Token(t, start)) => answered(Ok(Answer::Token(t, start)), 0, closed),
+        Err(r) => answered(Err(r), 0, State::refused(r, place)),
     }
 }
 
 // The source's end: the held token, the end, or a refusal, and then the end for ever or the refusal again.
+#[tactic(auto, unfolding(crate::specs::Feeding::close_of))]
 pub fn close(s: State) -> Fed
     ensures { fed_of result ≡ close_of s }
 {
-    let phase = s.phase;
-    match phase {
+    match s.phase {
         Phase::Live(mode) => shut_by(closing(mode, s.place), s.place),
-        Phase::Closed => answered(Answer::End, 0, s),
-        Phase::Refused(r) => answered(Answer::Refused(r), 0, s),
+        Phase::Closed => answered(Ok(Answer::End), 0, s),
+        Phase::Refused(r) => answered(Err(r), 0, s),
     }
 }
 
 // A piece of the source: the next token, "more" once the piece is consumed, or a refusal.
+#[tactic(auto, unfolding(crate::specs::Feeding::feed_of))]
 pub fn feed(s: State, piece: &[u8]) -> Fed
     ensures { fed_of result ≡ feed_of s piece.now }
 {
-    let phase = s.phase;
-    match phase {
+    match s.phase {
         Phase::Live(mode) => runs::fed_live(mode, s.place, piece),
-        Phase::Closed => answered(
-            Answer::Refused(Refusal {
-                number: refusals::FED_AFTER_CLOSE,
-                place: s.place,
-            }),
-            0,
-            s,
-        ),
-        Phase::Refused(r) => answered(Answer::Refused(r), 0, s),
+        Phase::Closed => answered(Err(Fault::FedAfterClose.at(s.place)), 0, s),
+        Phase::Refused(r) => answered(Err(r), 0, s),
     }
 }

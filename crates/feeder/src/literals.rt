@@ -1,37 +1,20 @@
 // Runs of bytes in a literal: its sign, its leading `0`, its digits.
 ghost use Rattle.std.specs.Prelude.{◌≡◌};
 ghost use Rattle.feeder.specs.Machine.{Sign, Zero, Digits, begun};
-ghost use Rattle.feeder.specs.PrivateRuns.{call, moved, Further, Span, ended_of};
+ghost use Rattle.feeder.specs.PrivateRuns.{Runs};
 
 use crate::Mode;
+use crate::rest::Rest;
 use crate::runs::Moved;
 use lexer::Lexed;
 use lexer::literal::Reading;
-use refusals::Refusal;
 use wide::Limbs;
-
-// What is held ends before the byte at i, as the source's end would end it.
-fn ended(last: Lexed, i: usize) -> Moved
-    ensures { result ≡ ended_of last i }
-{
-    match last {
-        Lexed::Token(t, start) => Moved::Give(t, start, i),
-        Lexed::Refused(r) => Moved::Halt(r, i),
-        Lexed::End => Moved::Halt(
-            Refusal {
-                number: 0,
-                place: 0,
-            },
-            i,
-        ),
-    }
-}
 
 // A literal's first digit, which stands at `place`: `0` may begin a prefix.
 pub fn begun_by(start: usize, minus: bool, place: usize, b: u8) -> Mode
     ensures { result ≡ begun start minus place b }
 {
-    if b == 48 {
+    if b == b'0' {
         return Mode::Zero { start, minus };
     }
     Mode::Digits {
@@ -42,96 +25,63 @@ pub fn begun_by(start: usize, minus: bool, place: usize, b: u8) -> Mode
     }
 }
 
-// A sign without digits is refused as `lexer::literal::concluded` refuses it; calling it here takes registers from the other runs.
-pub fn in_sign(piece: &[u8], place: usize, i: usize, stop: usize, start: usize) -> Moved
-    requires { Span piece.now place i stop }
-    ensures { Further i stop result × (moved piece.now place result ≡ call piece.now place i (Sign start)) }
-{
-    let b = piece[i];
-    if classes::is_literal_byte(b) {
-        return Moved::On(begun_by(start, true, place + i, b), i + 1);
-    }
-    Moved::Halt(
-        Refusal {
-            number: refusals::NO_DIGITS,
-            place: start,
-        },
-        i,
-    )
-}
-
-pub fn in_digits(
-    piece: &[u8],
-    place: usize,
-    i: usize,
-    stop: usize,
-    start: usize,
-    minus: bool,
-    radix: u8,
-    reading: Reading,
-) -> Moved
-    requires { Span piece.now place i stop }
-    ensures { Further i stop result × (moved piece.now place result ≡ call piece.now place i (Digits start minus radix reading)) }
-{
-    let mut j = i;
-    let mut x = reading;
-    while j < stop {
-        let b = piece[j];
-        if classes::is_literal_byte(b) {
-            x = lexer::literal::grow(radix, x, b, place + j);
-            j += 1;
-        } else {
-            return ended(lexer::literal::concluded(minus, start, place + j, x), j);
+#[tactic(auto, using(crate::proofs::Calls::moves, crate::proofs::Calls::as_in, crate::proofs::Calls::no_source_end), unfolding(crate::specs::Machine::turn))]
+impl Rest<'_> {
+    // Behind a sign the digits begin, if there are any.
+    #[tactic(auto, using(crate::proofs::Calls::moves), unfolding(crate::specs::Machine::turn, classes::specs::Classes::literal_byte, classes::specs::Classes::digit_of))]
+    pub fn in_sign(self, start: usize) -> Moved
+        ensures { Runs self.entry (Sign start) result }
+    {
+        if self.piece[self.at] == b'0' {
+            return Moved::On(Mode::Zero { start, minus: true }, self.at + 1);
         }
+        self.in_digits(start, true, 10, Reading::Empty)
     }
-    Moved::On(
-        Mode::Digits {
-            start,
-            minus,
-            radix,
-            reading: x,
-        },
-        j,
-    )
-}
 
-// After a literal's leading `0`: a prefix, or a digit like any other. One byte and no run, so that the compiler sees one call of
-// in_digits and keeps every run in registers.
-pub fn in_zero(
-    piece: &[u8],
-    place: usize,
-    i: usize,
-    stop: usize,
-    start: usize,
-    minus: bool,
-) -> Moved
-    requires { Span piece.now place i stop }
-    ensures { Further i stop result × (moved piece.now place result ≡ call piece.now place i (Zero start minus)) }
-{
-    let b = piece[i];
-    let radix = lexer::literal::radix_of(48, b);
-    if radix == 10 {
-        let zero = Reading::Number(Limbs { hi: 0, lo: 0 });
-        if classes::is_literal_byte(b) {
-            return Moved::On(
-                Mode::Digits {
-                    start,
-                    minus,
-                    radix: 10,
-                    reading: lexer::literal::grow(10, zero, b, place + i),
-                },
-                i + 1,
-            );
+    // A literal ends as the source's end would end it, which no literal is.
+    pub fn in_digits(self, start: usize, minus: bool, radix: u8, reading: Reading) -> Moved
+        ensures { Runs self.entry (Digits start minus radix reading) result }
+    {
+        let mut x = reading;
+        for j in self.at..self.piece.len() {
+            let b = self.piece[j];
+            if !classes::is_literal_byte(b) {
+                return match lexer::literal::concluded(minus, start, self.place + j, x) {
+                    Ok(Lexed::Token(t, start)) => Moved::Give(t, start, j),
+                    Ok(Lexed::End) => unreachable!(),
+                    Err(r) => Moved::Halt(r, j),
+                };
+            }
+            x = lexer::literal::grow(radix, x, b, self.place + j);
         }
-        return ended(lexer::literal::concluded(minus, start, place + i, zero), i);
+        Moved::On(
+            Mode::Digits {
+                start,
+                minus,
+                radix,
+                reading: x,
+            },
+            self.piece.len(),
+        )
     }
-    Moved::On(
-        Mode::Digits {
-            start,
-            minus,
-            radix,
-            reading: Reading::Empty,
-        },
-        i + 1,
-    )
+
+    // After a literal's leading `0`: a prefix, or a digit like any other.
+    pub fn in_zero(self, start: usize, minus: bool) -> Moved
+        ensures { Runs self.entry (Zero start minus) result }
+    {
+        let radix = lexer::literal::radix_of(b'0', self.piece[self.at]);
+        if radix == 10 {
+            let zero = Reading::Number(Limbs { hi: 0, lo: 0 });
+            return self.in_digits(start, minus, 10, zero);
+        }
+        Moved::On(
+            Mode::Digits {
+                start,
+                minus,
+                radix,
+                reading: Reading::Empty,
+            },
+            self.at + 1,
+        )
+    }
 }

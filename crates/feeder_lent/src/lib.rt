@@ -2,6 +2,7 @@
 #![tactic(auto)]
 
 ghost use Rattle.std.specs.Prelude.{◌≡◌};
+ghost use Rattle.std.specs.Fn.{FnOnceReturnsAtMut};
 ghost use Rattle.feeder.specs.Feeding.{feed_of, close_of, fed_of};
 
 use feeder::{Fed, Out, State};
@@ -22,19 +23,24 @@ pub fn close_in(s: &mut State) -> Out
     f.out
 }
 
-// The lent entrance for callers that pass a state by value and get it back.
+// A call in a lent state, for a caller that passes the state by value and gets it back.
+fn through<F: FnOnce(&mut State) -> Out>(s: State, call: F) -> Fed
+    requires { F.IsAlwaysCallable call }
+    ensures { FnOnceReturnsAtMut F.FnOnce call s result.out result.state }
+{
+    let mut state = s;
+    let out = call(&mut state);
+    Fed { out, state }
+}
+
 pub fn feed_through(s: State, piece: &[u8]) -> Fed
     ensures { fed_of result ≡ feed_of s piece.now }
 {
-    let mut t = s;
-    let out = feed_in(&mut t, piece);
-    Fed { out: out, state: t }
+    through(s, |state| feed_in(state, piece))
 }
 
 pub fn close_through(s: State) -> Fed
     ensures { fed_of result ≡ close_of s }
 {
-    let mut t = s;
-    let out = close_in(&mut t);
-    Fed { out: out, state: t }
+    through(s, close_in)
 }

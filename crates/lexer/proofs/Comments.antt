@@ -1,17 +1,18 @@
 -- Block comments at a place of the source, a law for each outcome of a turn. Assumes nothing.
-use Prim.Native.Nat.{ℕ, zero, suc, ◌+◌, ◌≤◌, ◌<◌}
+use Prim.Native.Nat.{ℕ, zero, suc, ◌+◌, ◌-◌, ◌≤◌, ◌<◌}
 use mathlib.Core.Path.{◌≡◌, refl, sym, ap, ◌∙◌}
 use mathlib.Core.List.{List}
 use mathlib.Core.Bool.{Bool, true, false, cond, ◌&&◌}
 use native.Mathlib.Numerals.{add-one}
 use native.Mathlib.Omega.{arith}
 use lib.ListN.{length, get_or, drop, drop_of_length-le}
+use borrow.Author.Tests.{le-leb, lt-leb}
 use Rattle.lists.proofs.Places.{from, first, within}
 use Rattle.classes.specs.declared.Class.{Class}
 use Rattle.classes.specs.declared.Class.TheVariants.{Space, LineEnd, Semicolon, LParen, RParen, AtSign, FormFeed, Minus, Digit, Other}
 use Rattle.classes.specs.Classes.{class_of, lparen, rparen, semicolon}
 use Rattle.lexer.specs.Lexing.{Skip, InBlock, Skipping, One, Two, leave, skip}
-use Rattle.lexer.specs.Gaps.{unclosed, skip_in}
+use Rattle.lexer.specs.Gaps.{unclosed, skip_in, skip_at}
 use Rattle.lexer.specs.PrivateBlocks.{mark_of}
 use Rattle.lexer.specs.declared.Mark.{Mark}
 use Rattle.lexer.specs.declared.Mark.TheVariants.{Opener, Closer, Neither}
@@ -85,11 +86,21 @@ module _ (s : List ℕ) (i : ℕ) where
     pub block_open : here ≡ Opener → skip_in 0 (InBlock d p) (drop i s) i ≡ skip_in 0 (InBlock (d + 1) p) (drop (i + 2) s) (i + 2)
     block_open e = two_on (InBlock (d + 1) p) (two_open e) (marked d p i _ _ ∙ ap (by_mark d p) e)
 
-    pub block_close : here ≡ Closer → skip_in 0 (InBlock d p) (drop i s) i ≡ skip_in 0 (leave d p) (drop (i + 2) s) (i + 2)
-    block_close e = two_on (leave d p) (two_close e) (marked d p i _ _ ∙ ap (by_mark d p) e)
+    block_left_on : here ≡ Closer → skip_in 0 (InBlock d p) (drop i s) i ≡ skip_in 0 (leave d p) (drop (i + 2) s) (i + 2)
+    block_left_on e = two_on (leave d p) (two_close e) (marked d p i _ _ ∙ ap (by_mark d p) e)
+
+    -- the last comment is left, or one of several
+    pub block_last : d ≤ 1 → here ≡ Closer → skip_in 0 (InBlock d p) (drop i s) i ≡ skip_at s (i + 2)
+    block_last h e = block_left_on e ∙ rw (le-leb d 1 h) refl
+
+    pub block_close : 1 < d → here ≡ Closer → skip_in 0 (InBlock d p) (drop i s) i ≡ skip_in 0 (InBlock (d - 1) p) (drop (i + 2) s) (i + 2)
+    block_close h e = block_left_on e ∙ rw (lt-leb d 1 h) refl
 
     pub block_go : i < length s → here ≡ Neither → skip_in 0 (InBlock d p) (drop i s) i ≡ skip_in 0 (InBlock d p) (drop (i + 1) s) (i + 1)
     unfolding skip_in
     block_go h e =
         let k : skip (InBlock d p) (class_of (get_or s i 0)) (class_of (get_or s (i + 1) 0)) i ≡ One (InBlock d p) = marked d p i _ _ ∙ ap (by_mark d p) e in
         rw (from s i h, skip_in, first s (i + 1), k) (ap (skip_in 0 (InBlock d p) (drop (i + 1) s)) (sym (add-one i)))
+
+-- each outcome of a turn, for the loop over a block comment
+pub ruleset turns = (two_open, two_close, block_past, block_open, block_last, block_close, block_go)

@@ -61,3 +61,6 @@ module _ (P : Reading → Type 0) (p : ℕ) (number : (v : ℕ) → v < 2 ^ 128 
       by Empty h = of_taken r 0 (digit_of b)
       by (Bad q) h = h
       by (Number n) h = of_taken r (val n) (digit_of b)
+
+-- each outcome of a turn, for the loop over digits
+pub ruleset turns = (end_past, end_stop, end_go, read_past, read_stop, read_go)

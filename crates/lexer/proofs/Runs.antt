@@ -1,10 +1,14 @@
 -- Where runs of bytes end, in the lexer's own definitions: line comments and symbols. Assumes nothing.
-use Prim.Native.Nat.{ℕ, suc, ◌+◌}
+use Prim.Native.Nat.{ℕ, suc, ◌+◌, ◌≤◌}
 use mathlib.Core.Path.{◌≡◌, refl, sym, ap, ◌∙◌}
 use mathlib.Core.List.{List, [], ◌∷◌}
 use mathlib.Core.Bool.{Bool, true, false, not}
 use native.Mathlib.Nat.{add-zero, add-suc, suc-add}
+use lib.Dec.{leb}
 use lib.ListN.{drop}
+use borrow.Author.Tests.{leb-true, leb-false}
+use native.Mathlib.Omega.{arith}
+use Rattle.std.specs.Prelude.{max}
 use lib.Seq.{drop-drop}
 use Rattle.classes.specs.Classes.{class_of, blank, line_end, symbol_other}
 use Rattle.classes.specs.Runs.{leading, line_run, symbol_run}
@@ -57,3 +61,11 @@ symbol_in (b ∷ s) i = by (symbol_other (class_of b)) refl (symbol_in s (suc i)
 
 pub symbol_run_lem : (s : List ℕ) (at : ℕ) → symbol_run s at ≡ symbol_end (drop at s) at
 symbol_run_lem s at = symbol_in (drop at s) at
+
+-- a loop from a place to the end of a list stops there, or at the place where that is past it
+pub max_end : (f : ℕ → ℕ) (n at i : ℕ) → ((k : ℕ) → n ≤ k → f k ≡ k) → n ≤ i → (at ≤ n → i ≤ n) → f i ≡ f at → max at n ≡ f at
+max_end f n at i past h k e = by (leb at n) refl
+  where
+    by : (t : Bool) → leb at n ≡ t → max at n ≡ f at
+    by true g = let l = leb-true at n g in let m : max at n ≡ i = omega (arith, k l) in m ∙ sym (past i h) ∙ e
+    by false g = let l = leb-false at n g in let m : max at n ≡ at = omega arith in m ∙ sym (past at (omega arith))

@@ -1,5 +1,6 @@
 -- THEOREMS: lexing is skipping, and then the token there (`lexed`); so what comes next from a place on comes next from behind the gap there (`gap_next_lem`), and it
--- is an `@` exactly if that byte is one (`gap_sign`, `gap_other`); and neither a blank nor a comment that is closed begins there (`gap_stands`).
+-- is an `@` exactly if that byte is one (`gap_sign`, `gap_other`); and neither a blank nor a comment that is closed begins there (`gap_no_blank`, `gap_no_semicolon`,
+-- `gap_opener`).
 use Prim.Native.Nat.{ℕ, zero, suc, ◌+◌, ◌-◌, ◌≤◌, ◌<◌}
 use mathlib.Core.Path.{◌≡◌, refl, sym, ap, subst⁻¹, ◌∙◌}
 use mathlib.Core.List.{List, [], ◌∷◌}
@@ -8,7 +9,7 @@ use native.Mathlib.Numerals.{add-one}
 use native.Mathlib.Omega.{arith}
 use lib.Dec.{eqb, leb, ltb}
 use lib.ListN.{length, get_or, drop, length-drop}
-use borrow.Author.Tests.{ltb-true, ltb-false, le-ltb}
+use borrow.Author.Tests.{leb-true, leb-false, ltb-true, ltb-false, le-ltb}
 use Rattle.lists.proofs.Places.{first, next}
 use Rattle.lists.proofs.Choice.{pick, and_left, true_false}
 use Rattle.refusals.specs.Numbers.{source_limit, open_comment}
@@ -211,15 +212,25 @@ module _ (s : List ℕ) (at : ℕ) where
       by (before (b ∷ l) i) k d = token_no (class_of b) b l i (ap (λ (n : ℕ). is_at_sign (class_of n)) (sym (byte s i b l k.stands.0)) ∙ d)
       by (unclosed p) k d = tt
 
-  -- the gap's end is no blank and no `;`, and `(;` there is never closed
-  module _ (h : at ≤ length s) where
-    pub gap_lexed : lex_at s (gap_end s at) ≡ lex_at s at
-    gap_lexed = lexed_at s (gap_end s at) at (gap_kept h).same
+  pub gap_lexed : lex_at s at ≡ lex_at s (gap_end s at)
+  gap_lexed = by (leb at (length s)) refl
+    where
+      by : (t : Bool) → leb at (length s) ≡ t → lex_at s at ≡ lex_at s (gap_end s at)
+      by true e = lexed_at s at (gap_end s at) (sym (gap_kept (leb-true at (length s) e)).same)
+      by false e = ap (lex_at s) (sym (ap rest_place (skip_past s at (omega (arith, leb-false at (length s) e)))))
 
-    pub gap_stands : gap_end s at < length s
-        → (blank (class_of (get_or s (gap_end s at) 0)) ≡ false) × (semicolon (class_of (get_or s (gap_end s at) 0)) ≡ false)
+  module _ (lt : gap_end s at < length s) where
+    gap_within : at ≤ length s
+    gap_within = by (leb at (length s)) refl
+      where
+        by : (t : Bool) → leb at (length s) ≡ t → at ≤ length s
+        by true e = leb-true at (length s) e
+        by false e = let k : gap_end s at ≡ at = ap rest_place (skip_past s at (omega (arith, leb-false at (length s) e))) in omega arith
+
+    -- the gap's end is no blank and no `;`, and `(;` there is never closed
+    gap_stands : (blank (class_of (get_or s (gap_end s at) 0)) ≡ false) × (semicolon (class_of (get_or s (gap_end s at) 0)) ≡ false)
         × (opener s (gap_end s at) ≡ true → lex_at s at ≡ refused open_comment (gap_end s at))
-    gap_stands lt = by (skip_at s at) refl (gap_kept h) lt
+    gap_stands = by (skip_at s at) refl (gap_kept gap_within) lt
       where
         by : (x : Rest) → skip_at s at ≡ x → Kept s x → rest_place x < length s
             → (blank (class_of (get_or s (rest_place x) 0)) ≡ false) × (semicolon (class_of (get_or s (rest_place x) 0)) ≡ false)
@@ -232,3 +243,16 @@ module _ (s : List ℕ) (at : ℕ) where
         by (unclosed p) e k lt =
             let c = lparen_is (class_of (get_or s p 0)) (and_left _ _ k.stands) in
             (ap blank c, ap semicolon c, λ _. lexed_unclosed s at p e)
+
+    pub gap_no_blank : blank (class_of (get_or s (gap_end s at) 0)) ≡ false
+    gap_no_blank = gap_stands.0
+
+    pub gap_no_semicolon : semicolon (class_of (get_or s (gap_end s at) 0)) ≡ false
+    gap_no_semicolon = gap_stands.1
+
+    pub gap_opener : lparen (class_of (get_or s (gap_end s at) 0)) ≡ true → semicolon (class_of (get_or s (gap_end s at + 1) 0)) ≡ true
+        → lex_at s at ≡ refused open_comment (gap_end s at)
+    gap_opener e f = gap_stands.2 (rw (e, f) refl)
+
+-- what is known of a gap's end
+pub ruleset gaps = (gap_lexed, gap_opener)

@@ -15,6 +15,7 @@ use Rattle.refusals.specs.Result.{ok, refused}
 use Rattle.classes.specs.declared.Class.{Class}
 use Rattle.classes.specs.declared.Class.TheVariants.{Semicolon, LParen, RParen, AtSign, FormFeed, Minus, Digit, Other}
 use Rattle.classes.specs.Classes.{class_of, blank, lparen, semicolon, is_at_sign}
+use Rattle.classes.proofs.Firsts.{semicolon_is, lparen_is, rparen_is, high_other}
 use Rattle.lexer.specs.Tokens.{end, is, token, lparen as open_paren, rparen, at_sign, symbol}
 use Rattle.lexer.specs.Literals.{radix_of, digits_in, unsigned_in}
 use Rattle.lexer.specs.Lexing.{Between, InLine, InBlock, skip, symbol_end, lex_in, lex_at}
@@ -107,3 +108,11 @@ module _ (s : List ℕ) (i : ℕ) where
     pub lex_other : class_of (get_or s i 0) ≡ Other → lex_at s i ≡ ok (is (token symbol i (symbol_end (drop (i + 1) s) (i + 1) - i)))
     unfolding lex_in skip
     lex_other e = rw (from s i h, e) (ap (λ (p : ℕ). ok (is (token symbol i (symbol_end (drop (i + 1) s) p - i)))) (sym (add-one i)))
+
+-- the class that a test of a byte tells
+pub ruleset told = (semicolon_is, lparen_is, rparen_is, high_other)
+
+-- each outcome of a turn, for a loop over blanks and comments; and what comes next, by the class of its first byte
+pub ruleset skips = (semicolon_within, skip_past, skip_blank, skip_semicolon, skip_block, skip_stop)
+
+pub ruleset nexts = (lex_past, lex_lparen, lex_rparen, lex_at_sign, lex_form_feed, lex_minus, lex_digit, lex_other)

@@ -1,18 +1,17 @@
 -- Literals (document 01, 'How source becomes tokens', its last two rules before the token; the place of a digit: document 02, 1/12).
-use Rattle.std.specs.Prelude.{ℕ, suc, ◌+◌, ◌-◌, ◌*◌, List, [], ◌∷◌, Bool, cond, ◌||◌, eqb, leb, drop, get_or}
+use Rattle.std.specs.Prelude.{ℕ, suc, ◌+◌, ◌-◌, ◌*◌, List, [], ◌∷◌, Bool, cond, ◌||◌, eqb, leb, drop, get_or, Option, Some, None}
 use Rattle.refusals.specs.Numbers.{no_digits, foreign_digit, too_large, minus_lowest}
 use Rattle.refusals.specs.Result.{ok, refused, refused_by}
 use Rattle.classes.specs.Classes.{digit_of, literal_byte}
-use Rattle.wide.specs.declared.Grown.{Grown}
-use Rattle.wide.specs.declared.Grown.TheVariants.{Fits, Over as Above}
+use Rattle.wide.specs.declared.Limbs.{Limbs}
 use Rattle.wide.specs.Value.{val, grown, Integer, is as is_integer, none as no_integer, integer_of}
 use Rattle.lexer.specs.Tokens.{Answer, is, token, int}
 pub use Rattle.lexer.specs.declared.literal.Reading.{Reading}
 pub use Rattle.lexer.specs.declared.literal.Reading.TheVariants.{Empty, Bad, Number}
 
-abbrev pub grew : Grown → ℕ → Reading
-grew (Fits n) p = Number n
-grew Above p = Bad (record { number = too_large; place = p })
+abbrev pub grew : Option Limbs → ℕ → Reading
+grew (Some n) p = Number n
+grew None p = Bad (record { number = too_large; place = p })
 
 -- the number n takes the digit d, which stands at p; if a digit is both foreign and too much, it is foreign
 unfoldable pub taken : ℕ → ℕ → ℕ → ℕ → Reading

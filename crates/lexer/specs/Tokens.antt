@@ -1,5 +1,6 @@
 -- Tokens and answers (document 01, 'How source becomes tokens'), and what each case of the lexer's enums stands for.
-use Rattle.std.specs.Prelude.{ℕ, ◌+◌, ℤ}
+use Rattle.std.specs.Prelude.{ℕ, ◌+◌, ℤ, Result as CodeResult, Ok, Err}
+use Rattle.refusals.specs.declared.Refusal.{Refusal}
 use Rattle.refusals.specs.Result.{Result, ok, refused_by}
 use Rattle.wide.specs.Value.{value}
 use Rattle.lexer.specs.declared.Token.{Token as CodeToken}
@@ -40,8 +41,8 @@ token_of code.At s = token at_sign s 1
 token_of (code.Symbol n) s = token symbol s n
 token_of (code.Int w n) s = token (int (value w)) s n
 
--- document 01's number and values for each case of the answer's enum
-abbrev pub answer_of : Lexed → Answer
-answer_of lexed.End = ok end
-answer_of (lexed.Token t s) = ok (is (token_of t s))
-answer_of (lexed.Refused r) = refused_by r
+-- document 01's number and values for each case of the code's answer
+abbrev pub answer_of : CodeResult Lexed Refusal → Answer
+answer_of (Ok lexed.End) = ok end
+answer_of (Ok (lexed.Token t s)) = ok (is (token_of t s))
+answer_of (Err r) = refused_by r

@@ -20,10 +20,8 @@ pub fn tulbazhik_feed(state: &mut [u64; 8], piece: &[u8], answer: &mut [u64; 8])
     ensures { (state.new ≡ state_words (feed_of (unpack_of state.old) piece.now)) × (answer.new ≡ fed_words (feed_of (unpack_of state.old) piece.now)) }
 {
     let f = feeder::feed(states::unpack(*state), piece);
-    let s = f.state;
-    let o = f.out;
-    *state = states::pack(s);
-    words::put_out(o, answer);
+    states::put(f.state, state);
+    words::put_out(f.out, answer);
 }
 
 // The source's end, in the state lent.
@@ -31,8 +29,6 @@ pub fn tulbazhik_close(state: &mut [u64; 8], answer: &mut [u64; 8])
     ensures { (state.new ≡ state_words (close_of (unpack_of state.old))) × (answer.new ≡ fed_words (close_of (unpack_of state.old))) }
 {
     let f = feeder::close(states::unpack(*state));
-    let s = f.state;
-    let o = f.out;
-    *state = states::pack(s);
-    words::put_out(o, answer);
+    states::put(f.state, state);
+    words::put_out(f.out, answer);
 }

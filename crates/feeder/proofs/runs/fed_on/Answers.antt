@@ -1,66 +1,54 @@
--- `feeder::runs::fed_on`: run by run, what is left of the call is the call.
-use Prim.Native.Nat.{ℕ, ◌+◌, ◌≤◌, ◌<◌}
-use mathlib.Core.Path.{◌≡◌, sym, ap, subst, ◌∙◌}
+-- `feeder::runs::fed_on`: run by run, what is left of the call on the bytes below the limit is that call, and it gives the call on all bytes.
+use mathlib.Core.Path.{◌≡◌, sym, ◌∙◌}
+use mathlib.Core.List.{◌++◌}
 use native.Mathlib.Omega.{arith}
-use lib.ListN.{length}
-use Rattle.refusals.specs.Numbers.{source_limit, too_long}
-use Rattle.refusals.specs.Result.{refused}
-use Rattle.feeder.specs.Feeding.{fed, dead, feed_from}
-use Rattle.feeder.specs.PrivateRuns.{moved, Further}
-use Rattle.feeder.specs.declared.runs.Moved.{Moved}
-use Rattle.feeder.proofs.Calls.{call_start, call_end, call_limit}
+use lib.ListN.{length, length-append}
+use Rattle.std.proofs.Common.{rules, ◌<◌, ◌≤◌}
+use Rattle.feeder.specs.Feeding.{feed_from}
+use Rattle.feeder.specs.PrivateRuns.{call, moved}
+use Rattle.feeder.proofs.Calls.{call_start, call_end, call_limit, cut_ready, cut_refused, cut_more}
 use Rattle.feeder.proofs.runs.fed_on.Goals as goal
-use Rattle.feeder.proofs.runs.fed_on.Goals.{After-advance, In-loop-i}
+use Rattle.feeder.proofs.runs.fed_on.Goals.{After-loop-at}
 
--- the bytes up to `stop` are the piece's, and stand below the limit if there are any
-limits : (c : In-loop-i) → let a = c.args in let s = a.stop in
-    (s ≤ length a.piece.now) × (c.loop-i.i < s → a.place + s ≤ source_limit)
-limits c = let e = c.requires in (omega arith, λ h. omega arith)
+pub loop-at-init : goal.loop-at-init
+loop-at-init c = (omega arith, call_start _ c.args.place 0 c.args.mode)
 
--- where a run ended
-further : (u : After-advance) (x : Moved) → u.advance.result ≡ x → Further u.loop-i.i u.args.stop x
-further u x e = subst (Further u.loop-i.i u.args.stop) e u.advance.ensures.0
-
-pub loop-i-init : goal.loop-i-init
-loop-i-init c = (omega arith, call_start c.args.piece.now c.args.place 0 c.args.mode)
-
-pub advance-requires : goal.advance-requires
-advance-requires c = record { some = c.loop-i-test.true; within = (limits c).0; below = (limits c).1 c.loop-i-test.true }
-
-pub loop-i-smaller : goal.loop-i-smaller
-loop-i-smaller c = let f = further (goal.at.loop-i-smaller c).After-advance _ c.in-On.is in omega (arith, f.0, f.1)
-
-pub loop-i-preserved : goal.loop-i-preserved
-loop-i-preserved c = let u = (goal.at.loop-i-preserved c).After-advance in let f = further u _ c.in-On.is in (f.1, sym (ap (moved _ _) c.in-On.is) ∙ u.advance.ensures.1 ∙ u.loop-i.invariant.1)
-
-pub overflow_add-place : goal.overflow_add-place
-overflow_add-place c = let f = further (goal.at.overflow_add-place c).After-advance _ c.in-Give.is in omega (arith, f, (limits (goal.at.overflow_add-place c).In-loop-i).1 c.loop-i-test.true)
+pub loop-at-preserved : goal.loop-at-preserved
+unfolding moved
+loop-at-preserved c = let w = c.in-On.ensures in (w.further.1, w.same ∙ c.loop-at.invariant.1)
 
 pub returns-in-Give : goal.returns-in-Give
-returns-in-Give c = rw c.answered.ensures (sym (ap (moved _ _) c.in-Give.is) ∙ c.advance.ensures.1 ∙ c.loop-i.invariant.1)
-
-pub overflow_add-place-in-Halt : goal.overflow_add-place-in-Halt
-overflow_add-place-in-Halt c = let f = further (goal.at.overflow_add-place-in-Halt c).After-advance _ c.in-Halt.is in omega (arith, f, (limits (goal.at.overflow_add-place-in-Halt c).In-loop-i).1 c.loop-i-test.true)
+unfolding moved
+returns-in-Give c =
+    let a = c.args in
+    rw (c.answered.ensures, c.live.ensures) (cut_ready a.mode a.place a.below.now a.beyond.now _ _ _ (c.in-Give.ensures.same ∙ c.loop-at.invariant.1))
 
 pub returns-in-Halt : goal.returns-in-Halt
-returns-in-Halt c = rw c.answered-in-Halt.ensures (sym (ap (moved _ _) c.in-Halt.is) ∙ c.advance.ensures.1 ∙ c.loop-i.invariant.1)
-
-pub overflow_add-place-then-stop-piece : goal.overflow_add-place-then-stop-piece
-overflow_add-place-then-stop-piece c = omega (arith, c.requires)
-
-pub returns-then-stop-piece : goal.returns-then-stop-piece
-returns-then-stop-piece c =
+unfolding moved
+returns-in-Halt c =
     let a = c.args in
-    let e : c.loop-i.i ≡ a.stop = omega arith in
-    let f = feed_from a.mode a.place a.piece.now in
-    rw c.answered-then-stop-piece.ensures
-    (subst (λ (u : ℕ). fed (refused too_long source_limit) u (dead too_long source_limit (a.place + u)) ≡ f) e
-    (sym (call_limit a.piece.now a.place c.loop-i.i c.loop-i.m (omega arith) (omega (arith, c.requires))) ∙ c.loop-i.invariant.1))
+    rw (c.answered-in-Halt.ensures, c.refused.ensures) (cut_refused a.mode a.place a.below.now a.beyond.now c.in-Halt.r _ _ (c.in-Halt.ensures.same ∙ c.loop-at.invariant.1))
 
-pub overflow_add-place-2 : goal.overflow_add-place-2
-overflow_add-place-2 c = omega (arith, c.requires)
+-- the bytes below the limit are all consumed
+more : (u : After-loop-at) → let a = u.args in call (a.below.now ++ a.beyond.now) a.place u.loop-at.at u.loop-at.m ≡ feed_from a.mode a.place (a.below.now ++ a.beyond.now)
+more u =
+    let a = u.args in
+    let q = a.below.now in
+    let e : u.loop-at.at ≡ length q = omega arith in
+    rw e (cut_more a.mode a.place q a.beyond.now u.loop-at.m (rw e at u.loop-at.invariant.1))
+
+pub returns-then-not-is_empty : goal.returns-then-not-is_empty
+returns-then-not-is_empty c =
+    let a = c.args in
+    let n : 0 < length a.beyond.now = search rules in
+    let f = c.requires.beyond n in
+    let h : c.loop-at.at < length (a.below.now ++ a.beyond.now) = rw length-append (omega arith) in
+    rw (c.answered-then-not-is_empty.ensures, c.refused-then-not-is_empty.ensures, c.at-r.ensures)
+    (sym (call_limit (a.below.now ++ a.beyond.now) a.place c.loop-at.at c.loop-at.m h (omega arith)) ∙ more (goal.at.returns-then-not-is_empty c).After-loop-at)
 
 pub returns : goal.returns
 returns c =
     let a = c.args in
-    rw c.answered-2.ensures (sym (call_end a.piece.now a.place c.loop-i.i c.loop-i.m (omega arith)) ∙ c.loop-i.invariant.1)
+    let n : length a.beyond.now ≡ 0 = search rules in
+    let h : length (a.below.now ++ a.beyond.now) ≤ c.loop-at.at = rw length-append (omega arith) in
+    rw (c.answered-2.ensures, c.live-2.ensures) (sym (call_end (a.below.now ++ a.beyond.now) a.place c.loop-at.at c.loop-at.m h) ∙ more (goal.at.returns c).After-loop-at)
