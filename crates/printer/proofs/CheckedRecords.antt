@@ -6,47 +6,39 @@ use Prim.Native.Nat.{ℕ, ◌+◌, ◌-◌, ◌^◌, ◌≤◌, ◌<◌}
 use native.Mathlib.Omega.{arith}
 use lib.ListN.{length}
 use lib.Dec.{ltb}
-use Rattle.refusals.specs.Numbers.{too_deep, bad_symbol}
 use Rattle.refusals.specs.Result.{Result, ok, refused}
 use Rattle.wide.specs.Bytes.{Bytes, number_in, integer_at}
 use Rattle.table.specs.Trees.{Tree, Trees, symbol, integer, binding, list, is_symbol}
-use Rattle.table.specs.declared.Record.{Record}
-use Rattle.table.specs.declared.Record.TheVariants.{Symbol, Integer, Binding, List as ListOf, Bad}
+use Rattle.std.specs.Prelude.{Option, Some, None, Result as CodeResult, Ok, Err, IsOk}
+use Rattle.refusals.specs.declared.Fault.{Fault}
+use Rattle.refusals.specs.declared.Fault.TheVariants as fault
 use Rattle.records.specs.Records.{head_len, kind_at, payload}
 use Rattle.table.specs.Kinds.{symbol_kind, integer_len, list_len}
+use Rattle.table.specs.declared.Record.{Record}
+use Rattle.table.specs.declared.Record.TheVariants.{Symbol, Integer, Binding, List as ListOf}
 use Rattle.table.specs.Records.{record_at}
 use Rattle.table.specs.Decoding.{Found, found, and_then, items_at, step_of, step_at, of_step, tree_at}
-use Rattle.table.specs.declared.Step.{Step}
-use Rattle.table.specs.declared.Step.TheVariants as step
 use Rattle.table.proofs.Reading.{RecordAt, record_in, read_in, symbol_in, StepIn, tree_of_lem}
 use Rattle.records.proofs.Heads.{within_is, part_lt}
 use Rattle.table.proofs.Steps.{Gone, step_tree, step_in, found_in}
-use Rattle.printer.specs.PrivateTrees.{Right, Sound, tree_of, trees_of, next_of, named_len}
+use Rattle.printer.specs.PrivateTrees.{Right, tree_of, trees_of, next_of, named_len}
 
 -- the count of a list fits 4 bytes, in a table of bytes
-pub list_small : (t : List ℕ) (at n : ℕ) (x : Record) → Bytes t → x ≡ record_at t at → x ≡ ListOf n → n < 2 ^ 32
+pub list_small : (t : List ℕ) (at n : ℕ) (x : Record) → Bytes t → Ok x ≡ record_at t at → x ≡ ListOf n → n < 2 ^ 32
 list_small t at n x hb e e' = let h = read_in t at x (ListOf n) e e' in omega (arith, part_lt t (at + head_len) 4 hb (omega arith), h.0)
 
 -- a record that is found has no fault
-abbrev plain : Record → Step
-plain (Symbol len) = step.Symbol len
-plain Integer = step.Integer
-plain (Binding len) = step.Binding len
-plain (ListOf n) = step.List n
-plain (Bad n) = step.Fault n
-
 module _ (t : List ℕ) (at : ℕ) (f : ℕ → Result (Found Tree)) where
-  right_then : (b : Bool) (s : Step) (n : ℕ) → Right (of_step t at f (cond b s (step.Fault n))) → cond b s (step.Fault n) ≡ s
-  right_then true s n r = refl
-  right_then false s n r = absurd r
+  right_then : (b : Bool) (x : Record) (g : Fault) → Right (of_step t at f (cond b (Ok x) (Err g))) → cond b (Ok x) (Err g) ≡ Ok x
+  right_then true x g r = refl
+  right_then false x g r = absurd r
 
-  plain_is : (o : Bool) (x : Record) → Right (of_step t at f (step_of t at o x)) → step_of t at o x ≡ plain x
-  plain_is o (Symbol len) r = right_then (is_symbol (payload t at len)) (step.Symbol len) bad_symbol r
+  plain_is : (o : Bool) (x : Record) → Right (of_step t at f (step_of t at o (Ok x))) → step_of t at o (Ok x) ≡ Ok x
+  plain_is o (Symbol len) r = right_then (is_symbol (payload t at len)) (Symbol len) fault.BadSymbol r
   plain_is o Integer r = refl
-  plain_is true (Binding len) r = right_then (is_symbol (payload t at len)) (step.Binding len) bad_symbol r
+  plain_is true (Binding len) r = right_then (is_symbol (payload t at len)) (Binding len) fault.BadSymbol r
   plain_is false (Binding len) r = absurd r
-  plain_is o (ListOf n) r = right_then o (step.List n) too_deep r
-  plain_is o (Bad n) r = refl
+  plain_is o (ListOf n) r = right_then o (ListOf n) fault.TooDeep r
 
 -- a found tree y is the binding or list of a found part z
 pub record Made (d : ℕ) {A : Type 0} (make : A → Tree) (part : Result (Found A) → A) (y : Result (Found Tree)) (z : Result (Found A)) : Type 0 where
@@ -59,21 +51,23 @@ made : {A : Type 0} (d : ℕ) (make : A → Tree) (part : Result (Found A) → A
 made {A} d make part f y (ok (found x q)) h r e = record { deeper = h; right = tt; is = e ∙ ap (λ (v : A). ok (found (make v) q)) (sym (f x q)) }
 made d make part f y (refused n a) h r e = absurd r
 
-module _ (t : List ℕ) (d at : ℕ) (x : Record) (r : Right (tree_at t d at)) (e : x ≡ record_at t at) where
-  plainly : (y : Record) → x ≡ y → step_at t at (ltb 0 d) ≡ plain y
+pub good_found : (t : List ℕ) (d at : ℕ) (x : CodeResult Record Fault) → Right (tree_at t d at) → x ≡ record_at t at → IsOk x
+good_found t d at (Ok x) r e = refl
+good_found t d at (Err f) r e = absurd (subst Right (tree_of_lem t d at (Err f) e) r)
+
+-- x is what was read at `at`
+module _ (t : List ℕ) (d at : ℕ) (x : Record) (r : Right (tree_at t d at)) (e : Ok x ≡ record_at t at) where
+  plainly : (y : Record) → x ≡ y → Ok y ≡ step_at t at (ltb 0 d)
   unfolding step_at
   plainly y e' =
-      let k : record_at t at ≡ y = sym e ∙ e' in
-      ap (step_of t at (ltb 0 d)) k ∙ plain_is t at (tree_at t (d - 1)) (ltb 0 d) y (subst Right (tree_of_lem t d at y (sym k)) r)
+      let k : Ok y ≡ record_at t at = ap Ok (sym e') ∙ e in
+      sym (ap (step_of t at (ltb 0 d)) (sym k) ∙ plain_is t at (tree_at t (d - 1)) (ltb 0 d) y (subst Right (tree_of_lem t d at (Ok y) k) r))
 
-  is_plain : (y : Record) → x ≡ y → tree_at t d at ≡ of_step t at (tree_at t (d - 1)) (plain y)
-  is_plain y e' = step_tree t d at (step_at t at (ltb 0 d)) (plain y) refl (plainly y e')
+  is_plain : (y : Record) → x ≡ y → tree_at t d at ≡ of_step t at (tree_at t (d - 1)) (Ok y)
+  is_plain y e' = step_tree t d at y y (plainly y e') refl
 
-  plain_in : (y : Record) → x ≡ y → StepIn t d at (plain y)
-  plain_in y e' = step_in t d at (step_at t at (ltb 0 d)) (plain y) refl (plainly y e')
-
-  pub bad_found : (n : ℕ) → x ≡ Bad n → ⊥
-  bad_found n e' = subst Right (is_plain (Bad n) e') r
+  plain_in : (y : Record) → x ≡ y → StepIn t d at (Ok y)
+  plain_in y e' = step_in t d at y y (plainly y e') refl
 
   pub symbol_found : (len : ℕ) → x ≡ Symbol len → tree_at t d at ≡ ok (found (symbol (payload t at len)) (at + len))
   symbol_found len e' = is_plain (Symbol len) e'
@@ -110,45 +104,47 @@ items_left {f} {n} {at} {i} {p} g r P h = by (items_at f (n - i) p) g.whole
 -- ---- a symbol, by its kind and its length alone
 
 -- n is what `symbol_at` answers on the record x
-abbrev Told : Record → ℕ → Type 0
-Told x n = Sound x → n ≡ named_len x
+abbrev Told : CodeResult Record Fault → Option ℕ → Type 0
+Told x n = IsOk x → n ≡ named_len x
 
 module _ (t : List ℕ) (at k : ℕ) (e : k ≡ number_in 2 t (at + 4)) where
-  pub symbol_yes : k ≡ symbol_kind → (n : ℕ) → n ≡ number_in 4 t at → Told (record_at t at) n
+  pub symbol_yes : k ≡ symbol_kind → (n : ℕ) → n ≡ number_in 4 t at → Told (record_at t at) (Some n)
   symbol_yes e1 n en = by (record_at t at) (record_in t at)
     where
       kind_is : head_len ≤ length t - at → kind_at t at ≡ symbol_kind
       kind_is h = within_is 2 t (at + 4) k (omega arith) e ∙ e1
 
-      by : (x : Record) → RecordAt t at x → Told x n
-      by (Symbol l) h g = sym (within_is 4 t at n (omega arith) en) ∙ sym h.0
-      by Integer h g = absurd (omega (arith, h.1, kind_is (omega arith)))
-      by (Binding l) h g = absurd (omega (arith, h.1, kind_is (omega arith)))
-      by (ListOf m) h g = absurd (omega (arith, h.2, kind_is (omega arith)))
-      by (Bad m) h g = absurd g
+      by : (x : CodeResult Record Fault) → RecordAt t at x → Told x (Some n)
+      by (Ok (Symbol l)) h g = ap Some (sym (within_is 4 t at n (omega arith) en) ∙ sym h.0)
+      by (Ok Integer) h g = absurd (omega (arith, h.1, kind_is (omega arith)))
+      by (Ok (Binding l)) h g = absurd (omega (arith, h.1, kind_is (omega arith)))
+      by (Ok (ListOf m)) h g = absurd (omega (arith, h.2, kind_is (omega arith)))
+      by (Err f) h g = cc
 
-  pub symbol_no : (k ≡ symbol_kind → ⊥) → Told (record_at t at) 0
+  pub symbol_no : (k ≡ symbol_kind → ⊥) → Told (record_at t at) None
   symbol_no e1 = by (record_at t at) (record_in t at)
     where
-      by : (x : Record) → RecordAt t at x → Told x 0
-      by (Symbol l) h g = absurd (e1 (sym (within_is 2 t (at + 4) k (omega arith) e) ∙ h.1))
-      by Integer h g = refl
-      by (Binding l) h g = refl
-      by (ListOf m) h g = refl
-      by (Bad m) h g = refl
+      by : (x : CodeResult Record Fault) → RecordAt t at x → Told x None
+      by (Ok (Symbol l)) h g = absurd (e1 (sym (within_is 2 t (at + 4) k (omega arith) e) ∙ h.1))
+      by (Ok Integer) h g = refl
+      by (Ok (Binding l)) h g = refl
+      by (Ok (ListOf m)) h g = refl
+      by (Err f) h g = refl
 
 -- what stands at p where `symbol_at` said that a symbol of len bytes does
 abbrev pub Named : List ℕ → ℕ → ℕ → ℕ → Type 0
 Named t d p len = (head_len ≤ len) × (p + len ≤ length t) × (tree_at t d p ≡ ok (found (symbol (payload t p len)) (p + len)))
 
-pub symbol_named : (t : List ℕ) (d p len : ℕ) → p ≤ length t → Right (tree_at t d p) → Told (record_at t p) len → 0 < len → Named t d p len
-symbol_named t d p len hp r g l = by (record_at t p) refl g
+pub symbol_named : (t : List ℕ) (d p len : ℕ) → p ≤ length t → Right (tree_at t d p) → Told (record_at t p) (Some len) → Named t d p len
+symbol_named t d p len hp r g = by (record_at t p) refl (good_found t d p (record_at t p) r refl) g
   where
-    by : (x : Record) → x ≡ record_at t p → Told x len → Named t d p len
-    by (Symbol n) e f =
+    by : (x : CodeResult Record Fault) → x ≡ record_at t p → IsOk x → Told x (Some len) → Named t d p len
+    by (Ok (Symbol n)) e o f =
         let k = symbol_in t p n (Symbol n) e refl in
-        rw (f tt) (k.0, omega arith, symbol_found t d p (Symbol n) r e n refl)
-    by Integer e f = absurd (omega (arith, f tt))
-    by (Binding n) e f = absurd (omega (arith, f tt))
-    by (ListOf n) e f = absurd (omega (arith, f tt))
-    by (Bad n) e f = absurd (bad_found t d p (Bad n) r e n refl)
+        let z : Some len ≡ Some n = f refl in
+        let y : len ≡ n = cc in
+        rw y (k.0, omega arith, symbol_found t d p (Symbol n) r e n refl)
+    by (Ok Integer) e o f = let z : Some len ≡ None = f refl in cc
+    by (Ok (Binding n)) e o f = let z : Some len ≡ None = f refl in cc
+    by (Ok (ListOf n)) e o f = let z : Some len ≡ None = f refl in cc
+    by (Err n) e o f = cc

@@ -1,12 +1,9 @@
 -- The fits test by the cost that a list stores is the layout's, where that cost is right. Assumes nothing.
-use mathlib.Core.Path.{◌≡◌, refl, ap, subst, ◌∙◌}
-use mathlib.Core.Bool.{Bool, false}
+use mathlib.Core.Path.{◌≡◌, ap, subst, ◌∙◌}
 use mathlib.Core.List.{List}
-use Prim.Native.Nat.{ℕ, ◌+◌, ◌-◌, ◌≤◌, ◌<◌}
+use Prim.Native.Nat.{ℕ, ◌+◌, ◌≤◌}
 use native.Mathlib.Omega.{arith}
-use lib.Dec.{leb}
 use lib.ListN.{length}
-use borrow.Author.Tests.{le-leb, lt-leb}
 use Rattle.refusals.specs.Numbers.{table_limit}
 use Rattle.refusals.specs.Result.{Result, ok}
 use Rattle.lists.proofs.Stands.{Stands, stands_length}
@@ -24,28 +21,7 @@ use Rattle.printer.specs.Fitting.{Tested, tested, fits_at}
 use Rattle.printer.specs.PrivateTrees.{tree_of, trees_of}
 use Rattle.printer.proofs.CheckedRecords.{Made}
 
-module _ (w c : ℕ) where
-  pub fits_past : (k : ℕ) → w < c → false ≡ fits_in w c k
-  unfolding fits_in
-  fits_past k h = rw (lt-leb c w h) refl
-
-  pub fits_test : (k : ℕ) → c ≤ w → leb k (w - c) ≡ fits_in w c k
-  unfolding fits_in
-  fits_test k h = rw (le-leb c w h) refl
-
-  pub looks_past : w < c → 0 ≡ looks w c
-  unfolding looks
-  looks_past h = rw (lt-leb c w h) refl
-
-  pub looks_test : c ≤ w → 1 ≡ looks w c
-  unfolding looks
-  looks_test h = rw (le-leb c w h) refl
-
 module _ (t : List ℕ) (p w c : ℕ) where
-  pub fits_by : (f : Bool) (k n : ℕ) → n ≡ stored_cost t p → f ≡ fits_in w c n → k ≡ looks w c → tested f k ≡ fits_at t p w c
-  unfolding fits_at
-  fits_by f k n en ef ek = rw (ef, ek, en) refl
-
   -- a list stores its cost
   fits_stored : (x : Tree) → stored_cost t p ≡ cost x → fits_at t p w c ≡ tested (fits w c x) (looks w c)
   unfolding fits_at

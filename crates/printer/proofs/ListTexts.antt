@@ -2,7 +2,13 @@
 use mathlib.Core.Path.{◌≡◌, refl, ap, ◌∙◌}
 use mathlib.Core.Bool.{Bool, true, false, cond}
 use mathlib.Core.List.{List, [], ◌∷◌, ◌++◌}
-use Prim.Native.Nat.{ℕ, ◌+◌, ◌*◌, ◌-◌, ◌<◌}
+use Rattle.std.specs.Prelude.{Option}
+use Rattle.std.specs.Bool.{then_some}
+use Rattle.std.specs.Option.{option_to_list}
+use lib.Dec.{eqb, ltb}
+use borrow.Author.Tests.{lt-ltb, ne_eqb}
+use Rattle.lists.specs.Rooms.{Puts}
+use Prim.Native.Nat.{ℕ, zero, suc, ◌+◌, ◌*◌, ◌-◌, ◌<◌}
 use native.Mathlib.Omega.{arith}
 use native.Mathlib.Nat.{add-mul}
 use lib.IntN.{ℤ}
@@ -59,6 +65,11 @@ rest_size m (more x xs) z h =
 
 abbrev pub flatly : Manner
 flatly = record { before = λ first. cond first [] (32 ∷ []); item = λ first x. line x; end = λ first. 41 ∷ [] }
+
+-- the space that the code puts before the i-th item
+pub space_put : (i n : ℕ) (f : Option ℕ) (b b' : List ℕ) → f ≡ then_some (ltb 0 i) 32 → Puts (option_to_list f) n b b' → Puts (flatly.before (eqb i 0)) n b b'
+space_put zero n f b b' e h = rw e at h
+space_put (suc i) n f b b' e h = rw (ne_eqb (suc i) 0 (λ z. omega arith)) (rw (e, lt-ltb 0 (suc i) (omega arith)) at h)
 
 lines_rest : (xs : Trees) (first : Bool) → lines xs first ≡ rest flatly xs first
 unfolding line rest

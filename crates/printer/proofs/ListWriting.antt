@@ -2,7 +2,7 @@
 use mathlib.Core.Path.{◌≡◌, refl, ap, sym, subst, subst⁻¹, ◌∙◌}
 use mathlib.Core.Bool.{Bool, true, false}
 use mathlib.Core.List.{List, [], ◌∷◌, ◌++◌, append_assoc}
-use Prim.Native.Nat.{ℕ, ◌+◌, ◌-◌, ◌≤◌, ◌<◌}
+use Prim.Native.Nat.{ℕ, ◌+◌, ◌-◌, ◌≤◌, ◌<◌, min}
 use native.Mathlib.Omega.{arith}
 use lib.Dec.{eqb}
 use lib.ListN.{length, length-append, take, drop}
@@ -36,12 +36,12 @@ module _ (text text' : Tree → List ℕ) (nm : List ℕ) (d : ℕ) (y z : Resul
   pub binding_size : (k : ℕ) → k ≡ length (named nm) → length (text (tree_of y)) ≡ k + length (text' (tree_of z))
   binding_size k e = ap length binding_text ∙ length-append (named nm) (text' (tree_of z)) ∙ omega arith
 
-  pub binding_written : (q k len r : ℕ) (b b₁ ys : List ℕ) → Puts (named nm) k b b₁ → (k ≤ length b₁ → r ≡ k)
+  pub binding_written : (q k len r : ℕ) (b b₁ ys : List ℕ) → Puts (named nm) k b b₁ → r ≡ min k (length b₁)
       → Written text' z q len (take (length b₁ - r) (drop r b₁)) ys → Written text y q (k + len) b (put_mid r (length b₁ - r) b₁ ys)
   binding_written q k len r b b₁ ys p er g = (
     g.0 ∙ sym (ap next_of h.is),
     subst⁻¹ (λ (v : List ℕ). Puts v (k + len) b (put_mid r (length b₁ - r) b₁ ys)) binding_text
-        (puts_both (named nm) (text' (tree_of z)) b b₁ ys k len r p er g.1),
+        (puts_both (named nm) (text' (tree_of z)) b b₁ ys k len r p (λ l. omega arith) g.1),
   )
 
 -- ---- a list, in either manner
@@ -137,8 +137,8 @@ module _ {t : List ℕ} {at d n : ℕ} {m : Manner} {c : ℕ} {b₀ b : List ℕ
       }
 
   -- one item more, behind what stands before it: both were put into the rest of the room
-  pub filling_step : i < n → (k r₁ r₂ q il : ℕ) (ys zs b₁ : List ℕ) → (len ≤ length b → r₁ ≡ len) → Puts (m.before (eqb i 0)) k (take (length b - r₁) (drop r₁ b)) ys
-      → b₁ ≡ put_mid r₁ (length b - r₁) b ys → length b₁ ≡ length b → (len + k ≤ length b₁ → r₂ ≡ len + k)
+  pub filling_step : i < n → (k r₁ r₂ q il : ℕ) (ys zs b₁ : List ℕ) → r₁ ≡ min len (length b) → Puts (m.before (eqb i 0)) k (take (length b - r₁) (drop r₁ b)) ys
+      → b₁ ≡ put_mid r₁ (length b - r₁) b ys → length b₁ ≡ length b → r₂ ≡ min (len + k) (length b₁)
       → Written (m.item (eqb i 0)) (tree_at t (d - 1) p) q il (take (length b₁ - r₂) (drop r₂ b₁)) zs → length (put_mid r₂ (length b₁ - r₂) b₁ zs) ≡ length b₁
       → Filling t at d n m c b₀ (put_mid r₂ (length b₁ - r₂) b₁ zs) (len + k + il) q (i + 1)
   filling_step l k r₁ r₂ q il ys zs b₁ e₁ f₁ eb l₁ e₂ f₂ l₂ =
@@ -157,7 +157,7 @@ module _ {t : List ℕ} {at d n : ℕ} {m : Manner} {c : ℕ} {b₀ b : List ℕ
         held =
             λ e v.
             puts_both (h.o ++ s) x e b₁ zs (len + k) il r₂
-            (subst⁻¹ (λ (u : List ℕ). Puts (h.o ++ s) (len + k) e u) eb (puts_both h.o s e b ys len k r₁ (h.held e v) e₁ f₁)) e₂ f₂.1;
+            (subst⁻¹ (λ (u : List ℕ). Puts (h.o ++ s) (len + k) e u) eb (puts_both h.o s e b ys len k r₁ (h.held e v) (λ l. omega arith) f₁)) (λ l. omega arith) f₂.1;
         right = h.right;
         within = (filling_item l).high;
         deeper = h.deeper;
@@ -180,13 +180,13 @@ module _ {t : List ℕ} {at d n : ℕ} {m : Manner} {c : ℕ} {b₀ b : List ℕ
 
   -- and the parenthesis closes
   pub filling_end : n ≤ i → (text : Tree → List ℕ) (e : List ℕ) → Made d list trees_of (tree_at t d at) (all t at d n m c)
-      → text (list (trees_of (all t at d n m c))) ≡ whole t at d n m c → (k : ℕ) → Puts (40 ∷ []) k e b₀ → (cl r : ℕ) (ys : List ℕ) → (len ≤ length b → r ≡ len)
+      → text (list (trees_of (all t at d n m c))) ≡ whole t at d n m c → (k : ℕ) → Puts (40 ∷ []) k e b₀ → (cl r : ℕ) (ys : List ℕ) → r ≡ min len (length b)
       → Puts (m.end (eqb n 0)) cl (take (length b - r) (drop r b)) ys → Written text (tree_at t d at) p (len + cl) e (put_mid r (length b - r) b ys)
   filling_end l text e made is k f cl r ys er g =
       let v : text (tree_of (tree_at t d at)) ≡ h.o ++ m.end (eqb n 0) = ap (λ (y : Result (Found Tree)). text (tree_of y)) made.is ∙ is ∙ (done l).2 in (
         sym (ap next_of made.is ∙ (done l).1),
         subst⁻¹ (λ (u : List ℕ). Puts u (len + cl) e (put_mid r (length b - r) b ys)) v
-            (puts_both h.o (m.end (eqb n 0)) e b ys len cl r (h.held e (refl, f.1)) er g),
+            (puts_both h.o (m.end (eqb n 0)) e b ys len cl r (h.held e (refl, f.1)) (λ l. omega arith) g),
       )
 
 -- ---- a list that is tested

@@ -2,35 +2,37 @@
 use mathlib.Core.Path.{◌≡◌, refl, ap, sym, subst, subst⁻¹, ◌∙◌}
 use mathlib.Core.Bool.{Bool, true, false, cond}
 use mathlib.Core.List.{List, [], ◌∷◌, ◌++◌, append_assoc, append-nil}
-use Prim.Native.Nat.{ℕ, ◌+◌, ◌*◌, ◌-◌, ◌≤◌, ◌<◌}
+use Prim.Native.Nat.{ℕ, ◌+◌, ◌*◌, ◌-◌, ◌≤◌, ◌<◌, min}
+use Rattle.std.specs.Prelude.{Option, Result as CodeResult, Ok, Err}
+use Rattle.std.specs.Bool.{then_some}
+use Rattle.std.specs.Option.{option_to_list}
 use native.Mathlib.Omega.{arith}
-use native.Mathlib.Nat.{pos_of_ne-zero}
 use lib.ListN.{length, length-append, take, drop}
-use lib.Dec.{ltb, eqb}
-use borrow.Author.Tests.{lt-ltb, ltb-false, eqb-true, eqb-false, le-leb, lt-leb}
+use lib.Dec.{ltb, lit≤}
+use borrow.Author.Tests.{lt-ltb, ltb-false, le-leb, lt-leb}
 use borrow.Rule.Slice.PartMut.{put_mid}
 use Rattle.refusals.specs.Numbers.{table_limit, depth_limit, too_long, print_room}
 use Rattle.refusals.specs.Result.{Result, ok, refused}
+use Rattle.wide.specs.Bytes.{Bytes}
 use Rattle.refusals.specs.declared.Refusal.{Refusal}
 use Rattle.table.specs.Trees.{Tree, Trees, none, more, records}
 use Rattle.table.specs.Costs.{costed, costed_all}
 use Rattle.table.specs.Decoding.{Found, found, and_then, tree_at, trees_at, shape_of, table_of}
-use Rattle.printer.specs.Layout.{page_from, page}
+use Rattle.printer.specs.Layout.{Wrap, page_from, page}
 use Rattle.printer.specs.Looking.{page_looked}
 use Rattle.printer.specs.Printing.{text, printing, printed_into, print_of}
 use Rattle.printer.specs.PrivateTrees.{Right, tree_of, trees_of, next_of}
 use Rattle.lists.specs.Rooms.{Filled, Puts}
 use Rattle.printer.specs.PrivateWriting.{Written, laid, seen, framed}
 use Rattle.printer.specs.PrivateMeasuring.{Summed}
-use Rattle.printer.specs.declared.measure.Measured.{Measured}
-use Rattle.printer.specs.declared.measure.Measured.TheVariants.{Bytes, Refused as No}
-use Rattle.printer.specs.declared.Printed.{Printed}
-use Rattle.printer.specs.declared.Printed.TheVariants.{Text, Refused}
+use Rattle.printer.specs.declared.Text.{Text}
 use Rattle.table.proofs.Costs.{both_right}
 use Rattle.table.proofs.Spans.{tree_span}
 use Rattle.table.proofs.Whole.{accepted_shape}
 use Rattle.table.proofs.Steps.{Read, read_begin, read_tree_lem, read_stop, read_end}
 use Rattle.lists.proofs.Rooms.{puts_both}
+use Rattle.printer.proofs.LayoutBounds.{right_len}
+use Rattle.printer.proofs.LookedBound.{right_looked}
 
 -- ---- one tree with what stands around it
 
@@ -48,27 +50,28 @@ framed_le later w x =
     let r = length-append (laid w 0 0 x) (10 ∷ []) in
     omega (arith, between_le later)
 
-first_none : (at : ℕ) → cond (eqb at 0) [] (10 ∷ []) ≡ between (ltb 0 at)
-first_none at = by (eqb at 0) refl
+-- the LF that the code puts before a tree at `at`
+first : (at : ℕ) (f : Option ℕ) → f ≡ then_some (ltb 0 at) 10 → option_to_list f ≡ between (ltb 0 at)
+first at f e = rw e (by (ltb 0 at))
   where
-    by : (b : Bool) → eqb at 0 ≡ b → cond b [] (10 ∷ []) ≡ between (ltb 0 at)
-    by true e = rw (eqb-true at 0 e) refl
-    by false e = rw (lt-ltb 0 at (pos_of_ne-zero (eqb-false at 0 e))) refl
+    by : (b : Bool) → option_to_list (then_some b 10) ≡ between b
+    by true = refl
+    by false = refl
 
-pub first_le : (at n : ℕ) → n ≡ length {A = ℕ} (cond (eqb at 0) [] (10 ∷ [])) → n ≤ 1
-first_le at n e = omega (arith, ap length (first_none at), between_le (ltb 0 at))
+pub first_le : (at n : ℕ) (f : Option ℕ) → f ≡ then_some (ltb 0 at) 10 → n ≡ length (option_to_list f) → n ≤ 1
+first_le at n f e en = omega (arith, ap length (first at f e), between_le (ltb 0 at))
 
 -- the three parts were put into the rest of the room, one after the other
-pub node_out : (at w a l k q r₁ r₂ : ℕ) (y : Result (Found Tree)) (b b₁ b₂ ys zs : List ℕ) → Puts (cond (eqb at 0) [] (10 ∷ [])) a b b₁ → (a ≤ length b₁ → r₁ ≡ a)
+pub node_out : (at w a l k q r₁ r₂ : ℕ) (f : Option ℕ) (y : Result (Found Tree)) (b b₁ b₂ ys zs : List ℕ) → f ≡ then_some (ltb 0 at) 10 → Puts (option_to_list f) a b b₁ → r₁ ≡ min a (length b₁)
     → Written (laid w 0 0) y q l (take (length b₁ - r₁) (drop r₁ b₁)) ys → b₂ ≡ put_mid r₁ (length b₁ - r₁) b₁ ys
-    → (a + l ≤ length b₂ → r₂ ≡ a + l) → Puts (10 ∷ []) k (take (length b₂ - r₂) (drop r₂ b₂)) zs
+    → r₂ ≡ min (a + l) (length b₂) → Puts (10 ∷ []) k (take (length b₂ - r₂) (drop r₂ b₂)) zs
     → Written (framed (ltb 0 at) w) y q (a + l + k) b (put_mid r₂ (length b₂ - r₂) b₂ zs)
-node_out at w a l k q r₁ r₂ y b b₁ b₂ ys zs fa e₁ fl eb e₂ fk =
+node_out at w a l k q r₁ r₂ f y b b₁ b₂ ys zs ef fa e₁ fl eb e₂ fk =
     let o : List ℕ = between (ltb 0 at) in
     let x : List ℕ = laid w 0 0 (tree_of y) in
-    let fa' : Puts o a b b₁ = subst (λ (v : List ℕ). Puts v a b b₁) (first_none at) fa in
-    let two = subst⁻¹ (λ (u : List ℕ). Puts (o ++ x) (a + l) b u) eb (puts_both o x b b₁ ys a l r₁ fa' e₁ fl.1) in
-    (fl.0, subst (λ (v : List ℕ). Puts v (a + l + k) b (put_mid r₂ (length b₂ - r₂) b₂ zs)) (append_assoc o x (10 ∷ [])) (puts_both (o ++ x) (10 ∷ []) b b₂ zs (a + l) k r₂ two e₂ fk))
+    let fa' : Puts o a b b₁ = subst (λ (v : List ℕ). Puts v a b b₁) (first at f ef) fa in
+    let two = subst⁻¹ (λ (u : List ℕ). Puts (o ++ x) (a + l) b u) eb (puts_both o x b b₁ ys a l r₁ fa' (λ l. omega arith) fl.1) in
+    (fl.0, subst (λ (v : List ℕ). Puts v (a + l + k) b (put_mid r₂ (length b₂ - r₂) b₂ zs)) (append_assoc o x (10 ∷ [])) (puts_both (o ++ x) (10 ∷ []) b b₂ zs (a + l) k r₂ two (λ l. omega arith) fk))
 
 -- ---- of the page the bytes o are done, for which k records were looked at, and the trees from p are left
 
@@ -199,21 +202,24 @@ module _ {t : List ℕ} {w : ℕ} {b₀ b : List ℕ} {n k p : ℕ} (h : Pages t
   pub pages_cost : p < length t → costed t (tree_of (tree_at t depth_limit p)) p ≡ ok tt
   pages_cost l = (step l).0.1
 
-  pub pages_step : p < length t → (q l x r : ℕ) (ys : List ℕ) → Written (framed (ltb 0 p) w) (tree_at t depth_limit p) q l (take (length b - r) (drop r b)) ys
-      × (x ≡ seen w 0 0 (tree_of (tree_at t depth_limit p)))
-      → (length (laid w 0 0 (tree_of (tree_at t depth_limit p))) + 300 ≤ 128 * (next_of (tree_at t depth_limit p) - p)) × (p < next_of (tree_at t depth_limit p))
+  pub pages_bound : Bytes t → p < length t → (length (laid w 0 0 (tree_of (tree_at t depth_limit p))) + 300 ≤ 128 * (next_of (tree_at t depth_limit p) - p)) × (p < next_of (tree_at t depth_limit p))
       × (next_of (tree_at t depth_limit p) ≤ length t)
-      → seen w 0 0 (tree_of (tree_at t depth_limit p)) ≤ next_of (tree_at t depth_limit p) - p
-      → (n ≤ length b → r ≡ n) → length (put_mid r (length b - r) b ys) ≡ length b
+  pages_bound hb l = right_len t depth_limit p Wrap w 0 0 hb pages_within (lit≤ tt) (pages_tree l)
+
+  pub pages_step : Bytes t → p < length t → (q l x r : ℕ) (ys : List ℕ) → Written (framed (ltb 0 p) w) (tree_at t depth_limit p) q l (take (length b - r) (drop r b)) ys
+      × (x ≡ seen w 0 0 (tree_of (tree_at t depth_limit p)))
+      → r ≡ min n (length b) → length (put_mid r (length b - r) b ys) ≡ length b
       → Pages t w b₀ (put_mid r (length b - r) b ys) (n + l) (k + x) q
-  pages_step lt q l x r ys g s m er lk =
+  pages_step hb lt q l x r ys g er lk =
       let f = g.0 in
+      let s = pages_bound hb lt in
+      let m = right_looked t depth_limit p w 0 0 pages_within (pages_tree lt) in
       let z = framed_le (ltb 0 p) w (tree_of (tree_at t depth_limit p)) in
       record {
         o = h.o ++ node t w p;
         paging = subst⁻¹ (λ (v : ℕ). Paging t w (h.o ++ node t w p) (k + x) v) f.0 (subst⁻¹ (λ (v : ℕ). Paging t w (h.o ++ node t w p) (k + v) (next_of (tree_at t depth_limit p))) g.1 (step lt).1);
         right = h.right;
-        held = puts_both h.o (node t w p) b₀ b ys n l r h.held er f.1;
+        held = puts_both h.o (node t w p) b₀ b ys n l r h.held (λ l. omega arith) f.1;
         small = omega (arith, s.0, s.1, h.small, f.0, f.1.0, z);
         few = omega (arith, s.1, h.few, f.0, g.1, m);
         kept = lk ∙ h.kept;
@@ -224,37 +230,38 @@ module _ {t : List ℕ} {w : ℕ} {b₀ b : List ℕ} {n k p : ℕ} (h : Pages t
 
 -- ---- the answer
 
-abbrev Answer : List ℕ → ℕ → List ℕ → List ℕ → Printed → Type 0
+abbrev Answer : List ℕ → ℕ → List ℕ → List ℕ → CodeResult Text Refusal → Type 0
 Answer t w b b' r = (print_of r ≡ printing t w (length b)) × (b' ≡ printed_into t w b)
 
-pub print_right : (y : Result (Found Trees)) (w n : ℕ) (x : Measured) → Summed y w x → x ≡ Bytes n → Right y × (n ≡ length (page (trees_of y) w))
-print_right (ok (found xs q)) w n x s e = (tt, subst (Summed (ok (found xs q)) w) e s)
-print_right (refused m a) w n x s e = absurd (subst (Summed (refused m a) w) e s)
+pub print_right : (y : Result (Found Trees)) (w n : ℕ) → Summed y w (Ok n) → Right y × (n ≡ length (page (trees_of y) w))
+print_right (ok (found xs q)) w n s = (tt, s)
+print_right (refused m a) w n s = absurd s
 
-refused_of : (y : Result (Found Trees)) (w : ℕ) (r : Refusal) → Summed y w (No r) → y ≡ refused r.number r.place
+refused_of : (y : Result (Found Trees)) (w : ℕ) (r : Refusal) → Summed y w (Err r) → y ≡ refused r.number r.place
 refused_of (ok (found xs q)) w r s = absurd s
 refused_of (refused n a) w r s = rw (s.0, s.1) refl
 
-pub print_no : (t : List ℕ) (w : ℕ) (b : List ℕ) (x : Measured) (r : Refusal) → Summed (table_of t) w x → x ≡ No r → Answer t w b b (Refused r)
+pub print_no : (t : List ℕ) (w : ℕ) (b : List ℕ) (r : Refusal) → Summed (table_of t) w (Err r) → Answer t w b b (Err r)
 unfolding printing printed_into
-print_no t w b x r s e = rw (refused_of (table_of t) w r (subst (Summed (table_of t) w) e s)) (refl, refl)
+print_no t w b r s = rw (refused_of (table_of t) w r s) (refl, refl)
 
-module _ (t : List ℕ) (n w : ℕ) (b : List ℕ) (r : Right (table_of t)) (e : n ≡ length (page (trees_of (table_of t)) w)) where
-  short_of : (y : Result (Found Trees)) → Right y → n ≡ length (page (trees_of y) w) → table_of t ≡ y → length b < n → Answer t w b b (Refused (record { number = print_room; place = n }))
+module _ (t : List ℕ) (n w : ℕ) (b : List ℕ) (s : Summed (table_of t) w (Ok n)) where
+  short_of : (y : Result (Found Trees)) → Summed y w (Ok n) → table_of t ≡ y → length b < n → Answer t w b b (Err (record { number = print_room; place = n }))
   unfolding printing printed_into
-  short_of (refused m c) ry f ey l = absurd ry
-  short_of (ok (found xs q)) ry f ey l = rw (ey, lt-leb (length (page xs w)) (length b) (omega arith)) (ap (refused print_room) f, refl)
+  short_of (refused m c) f ey l = absurd f
+  short_of (ok (found xs q)) f ey l = rw (ey, lt-leb (length (page xs w)) (length b) (omega arith)) (ap (refused print_room) f, refl)
 
-  pub print_short : length b < n → Answer t w b b (Refused (record { number = print_room; place = n }))
-  print_short l = short_of (table_of t) r e refl l
+  pub print_short : length b < n → (r : Refusal) → r ≡ record { number = print_room; place = n } → Answer t w b b (Err r)
+  print_short l r e = rw e (short_of (table_of t) s refl l)
 
-  text_of : (y : Result (Found Trees)) → Right y → n ≡ length (page (trees_of y) w) → table_of t ≡ y → n ≤ length b → (b' : List ℕ) (k : ℕ)
-      → Filled (page (trees_of y) w) b b' × (k ≡ page_looked (trees_of y) w) → Answer t w b b' (Text n k)
+  text_of : (y : Result (Found Trees)) → Summed y w (Ok n) → table_of t ≡ y → n ≤ length b → (b' : List ℕ) (k : ℕ)
+      → Filled (page (trees_of y) w) b b' × (k ≡ page_looked (trees_of y) w) → Answer t w b b' (Ok (record { len = n; looked = k }))
   unfolding printing printed_into
-  text_of (refused m c) ry f ey l b' k g = absurd ry
-  text_of (ok (found xs q)) ry f ey l b' k g =
+  text_of (refused m c) f ey l b' k g = absurd f
+  text_of (ok (found xs q)) f ey l b' k g =
       let h : length (page xs w) ≤ length b = omega arith in
       rw (ey, le-leb (length (page xs w)) (length b) h) (ap (λ (j : ℕ). ok (text j k)) f ∙ ap (λ (j : ℕ). ok (text (length (page xs w)) j)) g.1, g.0 h)
 
-  pub print_text : n ≤ length b → (b' : List ℕ) (k : ℕ) → Filled (page (trees_of (table_of t)) w) b b' × (k ≡ page_looked (trees_of (table_of t)) w) → Answer t w b b' (Text n k)
-  print_text l b' k g = text_of (table_of t) r e refl l b' k g
+  pub print_text : n ≤ length b → (b' : List ℕ) (k : ℕ) → Filled (page (trees_of (table_of t)) w) b b' × (k ≡ page_looked (trees_of (table_of t)) w)
+      → Answer t w b b' (Ok (record { len = n; looked = k }))
+  print_text l b' k g = text_of (table_of t) s refl l b' k g

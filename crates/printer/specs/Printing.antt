@@ -1,5 +1,6 @@
 -- The answer of `print`, and the lent buffer after it (document 01, 'Numbers given instead of an answer').
-use Rattle.std.specs.Prelude.{ℕ, cond, List, length, leb}
+use Rattle.std.specs.Prelude.{ℕ, cond, List, length, leb, Result as CodeResult, Ok, Err}
+use Rattle.refusals.specs.declared.Refusal.{Refusal}
 use Rattle.refusals.specs.Numbers.{print_room}
 use Rattle.refusals.specs.Result.{Result, ok, refused, refused_by}
 use Rattle.lists.specs.Over.{fitted}
@@ -7,8 +8,7 @@ use Rattle.table.specs.Trees.{Trees}
 use Rattle.table.specs.Decoding.{Found, found, table_of}
 use Rattle.printer.specs.Layout.{page}
 use Rattle.printer.specs.Looking.{page_looked}
-use Rattle.printer.specs.declared.Printed.{Printed}
-use Rattle.printer.specs.declared.Printed.TheVariants as code
+use Rattle.printer.specs.declared.Text.{Text as CodeText}
 
 -- a text's length, and the records that the fits test looked at (document 02, 3/12)
 pub data Text : Type 0 where
@@ -35,7 +35,7 @@ printing t w k = answered (table_of t) w k
 unfoldable pub printed_into : List ℕ → ℕ → List ℕ → List ℕ
 printed_into t w b = leaves (table_of t) w b
 
--- document 01's number and values for each case of the answer's enum
-abbrev pub print_of : Printed → Result Text
-print_of (code.Text n k) = ok (text n k)
-print_of (code.Refused r) = refused_by r
+-- document 01's number and values for the code's answer
+abbrev pub print_of : CodeResult CodeText Refusal → Result Text
+print_of (Ok t) = ok (text t.len t.looked)
+print_of (Err r) = refused_by r

@@ -1,6 +1,6 @@
 -- Private, for contracts of the code's own functions: what is written into a room that may be too short.
 use Rattle.std.specs.Prelude.{ℕ, ◌+◌, ◌≤◌, ◌≡◌, Bool, true, false, cond, List, [], ◌∷◌, ◌++◌, length}
-use Rattle.refusals.specs.Numbers.{table_limit, depth_limit}
+use Rattle.refusals.specs.Numbers.{depth_limit}
 use Rattle.refusals.specs.Result.{Result, ok}
 use Rattle.lists.specs.Rooms.{Puts}
 use Rattle.wide.specs.Text.{integer_text}
@@ -42,7 +42,7 @@ seen w i c x = looked x Wrap w i c
 -- where a tree may be laid: in a checked table, so that the costs in it are right, and the numbers are small
 abbrev pub Ready : List ℕ → ℕ → ℕ → ℕ → ℕ → ℕ → Type 0
 Ready t d at w i c =
-    (at ≤ length t) × (length t ≤ table_limit) × (i + d ≤ depth_limit) × Right (tree_at t d at)
+    (at ≤ length t) × (i + d ≤ depth_limit) × Right (tree_at t d at)
     × (c + length (laid w i c (tree_of (tree_at t d at))) ≤ 4294967296) × (costed t (tree_of (tree_at t d at)) at ≡ ok tt)
 
 -- a tree and its LF, behind the LF between it and one before it

@@ -1,4 +1,5 @@
-// What a record puts of its own: a symbol, an integer, or a binding's name.
+// What a record puts of its own: a symbol, an integer, or a binding's name. Table, place and length stay three: a slice of a name would be cut before it is asked
+// for, by the walks that put nothing.
 ghost use Rattle.std.specs.Prelude.{◌+◌, ◌≤◌, length};
 ghost use Rattle.wide.specs.Bytes.{integer_at};
 ghost use Rattle.wide.specs.Text.{integer_text};
@@ -14,9 +15,7 @@ pub fn put_symbol(t: &[u8], at: usize, len: usize, out: &mut [u8]) -> usize
     requires { (head_len ≤ len) × (at + len ≤ length t.now) }
     ensures { Puts (payload t.now at len) result out.old out.new }
 {
-    let start = at + HEAD;
-    let end = at + len;
-    lists::put(&t[start..end], out)
+    lists::put(&t[at + HEAD..at + len], out)
 }
 
 // The integer whose record stands at `at`.
@@ -32,15 +31,11 @@ pub fn put_name(t: &[u8], at: usize, len: usize, out: &mut [u8]) -> usize
     requires { (head_len ≤ len) × (at + len ≤ length t.now) }
     ensures { Puts (named (payload t.now at len)) result out.old out.new }
 {
-    let start = at + HEAD;
-    let end = at + len;
     let n = len - HEAD;
     if out.len() < n + 3 {
         return n + 3;
     }
-    out[..n].copy_from_slice(&t[start..end]);
-    out[n] = b' ';
-    out[n + 1] = b'@';
-    out[n + 2] = b' ';
+    out[..n].copy_from_slice(&t[at + HEAD..at + len]);
+    out[n..n + 3].copy_from_slice(b" @ ");
     n + 3
 }

@@ -5,13 +5,14 @@ ghost use Rattle.printer.specs.Looking.{looks};
 ghost use Rattle.printer.specs.Fitting.{fits_at};
 
 // Whether a list fits, and the records that were looked at for it.
-#[derive(Clone, Copy)]
+#[derive(Clone, Copy, Debug, PartialEq, Eq)]
 pub struct Tested {
     pub fits: bool,
     pub looked: usize,
 }
 
 // The column that a line break sets.
+#[tactic(auto, unfolding(crate::specs::Layout::break_column))]
 pub fn break_column(indent: usize) -> usize
     ensures { result ≡ break_column indent }
 {
@@ -19,26 +20,23 @@ pub fn break_column(indent: usize) -> usize
 }
 
 // At most width minus column, and never if the column is past the width.
+#[tactic(auto, unfolding(crate::specs::Layout::fits_in), using(std::proofs::lemmas::Bool::Decides::nat_tests))]
 pub fn fits_in(width: usize, column: usize, cost: usize) -> bool
     ensures { result ≡ fits_in width column cost }
 {
-    if width < column {
-        return false;
-    }
-    cost <= width - column
+    column <= width && cost <= width - column
 }
 
 // The list's record, unless the column is past the width.
+#[tactic(auto, unfolding(crate::specs::Looking::looks), using(std::proofs::lemmas::Bool::Decides::nat_tests))]
 fn looks_at(line: usize, column: usize) -> usize
     ensures { result ≡ looks line column }
 {
-    if line < column {
-        return 0;
-    }
-    1
+    usize::from(column <= line)
 }
 
 // Whether the list at `at` fits, by the cost that it stores.
+#[tactic(auto, unfolding(crate::specs::Fitting::fits_at))]
 pub fn fits(t: &[u8], at: usize, width: u32, column: usize) -> Tested
     ensures { result ≡ fits_at t.now at width column }
 {

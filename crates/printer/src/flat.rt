@@ -1,15 +1,15 @@
-// A tree on a single line, and so all inside it: no column, no width and no indent.
-ghost use Rattle.std.specs.Prelude.{◌≡◌, ◌≤◌, length};
+// A tree on a single line, and so all inside it: no column, no width and no indent. Apart from `print_wrapped`, for time: most lists fit (docs/SPEED.md).
+ghost use Rattle.std.specs.Prelude.{◌≡◌, ◌≤◌, length, IsOk};
 ghost use Rattle.refusals.specs.Numbers.{table_limit, depth_limit};
 ghost use Rattle.table.specs.Decoding.{tree_at};
 ghost use Rattle.table.specs.Records.{record_at};
-ghost use Rattle.printer.specs.PrivateTrees.{Right, Sound, named_len};
+ghost use Rattle.printer.specs.PrivateTrees.{Right, named_len};
 ghost use Rattle.printer.specs.PrivateWriting.{line, Written};
 
 use crate::{atoms, room};
-use table::Record;
+use table::{Kind, Record};
 
-#[derive(Clone, Copy)]
+#[derive(Clone, Copy, Debug, PartialEq, Eq)]
 pub struct Run {
     // The place past the tree.
     pub next: usize,
@@ -17,25 +17,25 @@ pub struct Run {
     pub len: usize,
 }
 
-// The length of the symbol's record at `at` of a checked table, or 0 of any other record.
-fn symbol_at(t: &[u8], at: usize) -> usize
+// The length of the symbol's record at `at` of a checked table; none of any other record.
+fn symbol_at(t: &[u8], at: usize) -> Option<usize>
     requires { at ≤ table_limit }
-    ensures { Sound (record_at t.now at) → result ≡ named_len (record_at t.now at) }
+    ensures { IsOk (record_at t.now at) → result ≡ named_len (record_at t.now at) }
 {
-    if records::kind_at(t, at) == table::SYMBOL {
-        return records::len_at(t, at);
+    if records::kind_at(t, at) == Kind::Symbol as usize {
+        return Some(records::len_at(t, at));
     }
-    0
+    None
 }
 
-// The tree at `at` of a checked table. A symbol in a list takes no call of its own.
+// The tree at `at` of a checked table. A symbol in a list takes no call of its own. It gets the table and not the page, through which a print at width 100 costs 3.6 % more instructions.
 pub fn print_flat(t: &[u8], at: usize, depth: usize, out: &mut [u8]) -> Run
     requires { (at ≤ length t.now) × (length t.now ≤ table_limit) × (depth ≤ depth_limit) × Right (tree_at t.now depth at) }
     ensures { Written line (tree_at t.now depth at) result.next result.len out.old out.new }
 {
-    let node = table::record_at(t, at);
+    // A checked table has a good record there.
+    let node = table::record_at(t, at).unwrap();
     match node {
-        Record::Bad(_) => Run { next: at, len: 0 },
         Record::Symbol(len) => {
             let n = atoms::put_symbol(t, at, len, out);
             Run {
@@ -52,7 +52,7 @@ pub fn print_flat(t: &[u8], at: usize, depth: usize, out: &mut [u8]) -> Run
         }
         Record::Binding(len) => {
             let k = atoms::put_name(t, at, len, out);
-            let rest = lists::least(k, out.len());
+            let rest = k.min(out.len());
             let tree = print_flat(t, at + len, depth - 1, &mut out[rest..]);
             Run {
                 next: tree.next,
@@ -62,23 +62,20 @@ pub fn print_flat(t: &[u8], at: usize, depth: usize, out: &mut [u8]) -> Run
         Record::List(n) => {
             let mut w = room::put_byte(b'(', out);
             let mut p = at + table::LIST_LEN;
-            let mut i = 0;
-            while i < n {
-                let from = lists::least(w, out.len());
-                let k = w + room::put_unless(i == 0, b' ', &mut out[from..]);
-                let rest = lists::least(k, out.len());
-                let len = symbol_at(t, p);
-                if 0 < len {
+            for i in 0..n {
+                let from = w.min(out.len());
+                let k = w + room::put_optional((0 < i).then_some(b' '), &mut out[from..]);
+                let rest = k.min(out.len());
+                if let Some(len) = symbol_at(t, p) {
                     w = k + atoms::put_symbol(t, p, len, &mut out[rest..]);
-                    p = p + len;
+                    p += len;
                 } else {
                     let item = print_flat(t, p, depth - 1, &mut out[rest..]);
                     w = k + item.len;
                     p = item.next;
                 }
-                i += 1;
             }
-            let rest = lists::least(w, out.len());
+            let rest = w.min(out.len());
             let end = room::put_byte(b')', &mut out[rest..]);
             Run {
                 next: p,

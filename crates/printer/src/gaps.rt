@@ -1,4 +1,5 @@
-// What stands before an item of a list that is wrapped, and before its closing parenthesis; and where the item then is.
+// What stands before an item of a list that is wrapped, and before its closing parenthesis; and where the item then is. `first` and `indent` stay two: the one
+// changes with each item, the other with none, and a bound on a number is no plainer as a struct that each takes apart.
 ghost use Rattle.std.specs.Prelude.{◌≡◌, ◌+◌, ◌≤◌};
 ghost use Rattle.refusals.specs.Numbers.{depth_limit};
 ghost use Rattle.printer.specs.Layout.{Wrap, bytes, column as column_of, gap, inner};
@@ -49,7 +50,7 @@ pub fn put_close(empty: bool, indent: usize, out: &mut [u8]) -> usize
         return room::put_byte(b')', out);
     }
     let n = room::nl(indent, out);
-    let rest = lists::least(n, out.len());
+    let rest = n.min(out.len());
     let k = room::put_byte(b')', &mut out[rest..]);
     n + k
 }

@@ -1,6 +1,6 @@
 // The check of a table and its measure in one walk, before a byte is written: what each tree costs, and the bytes that it takes if the costs are right.
-ghost use Rattle.std.specs.Prelude.{◌≡◌, false, ◌+◌, ◌*◌, ◌≤◌, ◌<◌, length};
-ghost use Rattle.refusals.specs.Numbers.{table_limit, depth_limit};
+ghost use Rattle.std.specs.Prelude.{◌≡◌, None, false, ◌+◌, ◌*◌, ◌≤◌, ◌<◌, length};
+ghost use Rattle.refusals.specs.Numbers.{depth_limit};
 ghost use Rattle.refusals.specs.Result.{ok};
 ghost use Rattle.table.specs.Kinds.{list_len};
 ghost use Rattle.table.specs.Trees.{list};
@@ -9,214 +9,165 @@ ghost use Rattle.table.specs.Decoding.{tree_at, items_at, and_then, found, table
 ghost use Rattle.printer.specs.Layout.{fits_in};
 ghost use Rattle.printer.specs.PrivateMeasuring.{Straight, Sized, Summed};
 
+use crate::page::Page;
 use crate::{cost, gaps, room};
 use records::HEAD;
-use refusals::Refusal;
-use table::{Step, walk};
+use refusals::{Fault, Refusal};
+use table::{Kind, Record, walk};
 
-#[derive(Clone, Copy)]
+// What a tree takes. Beside `table::walk`, and not one walk for both: that one knows no width, indent or column, and walks most of a table (docs/SPEED.md).
+#[derive(Clone, Copy, Debug, PartialEq, Eq)]
 pub struct Size {
-    // A refusal's number, or 0.
-    pub number: u8,
-    // The place past the tree, or the refusal's.
+    // The place past the tree.
     pub place: usize,
     pub cost: usize,
-    // The place of the first list that stores a wrong cost, or the table's length.
-    pub wrong: usize,
+    // The place of the first list that stores a wrong cost.
+    pub wrong: Option<usize>,
     // The bytes as it is laid, if no cost is wrong.
     pub len: usize,
 }
 
-#[derive(Clone, Copy)]
-pub enum Measured {
-    Bytes(usize),
-    Refused(Refusal),
-}
-
-fn refused(number: u8, place: usize) -> Measured
-    ensures { result ≡ Measured.Refused (record { number = number; place = place }) }
-{
-    Measured::Refused(Refusal { number, place })
-}
-
-fn stopped(number: u8, place: usize) -> Size
-    ensures { (result.number ≡ number) × (result.place ≡ place) }
-{
-    Size {
-        number,
-        place,
-        cost: 0,
-        wrong: 0,
-        len: 0,
-    }
-}
-
 // A symbol or an integer of n bytes.
-fn atom(place: usize, n: usize, none: usize) -> Size
-    ensures { result ≡ record { number = 0; place = place; cost = n; wrong = none; len = n } }
+fn atom(place: usize, n: usize) -> Size
+    ensures { result ≡ record { place = place; cost = n; wrong = None; len = n } }
 {
     Size {
-        number: 0,
         place,
         cost: n,
-        wrong: none,
+        wrong: None,
         len: n,
     }
 }
 
-// The tree at `at`, with `depth` lists and bindings still to be opened.
-#[cycle(measure_list_measure_tree)]
-fn measure_tree(
-    t: &[u8],
-    at: usize,
-    depth: usize,
-    width: usize,
-    indent: usize,
-    column: usize,
-) -> Size
-    requires { (at ≤ length t.now) × (length t.now ≤ table_limit) × (indent + depth ≤ depth_limit) × (column ≤ at + 4 * depth_limit) }
-    ensures { Sized t.now at (tree_at t.now depth at) width indent column result }
-{
-    // By the cost that it stores it is on a single line: the walk over it judges it, and if that cost is wrong there is no text to measure.
-    let is_list = records::kind_at(t, at) == table::LIST;
-    if is_list & cost::fits_in(width, column, table::stored_cost(t, at)) {
-        return measure_line(t, at, depth);
-    }
-    let step = table::step_at(t, at, 0 < depth);
-    match step {
-        Step::Fault(number) => stopped(number, at),
-        Step::Symbol(len) => atom(at + len, len - HEAD, t.len()),
-        Step::Integer => atom(
-            at + table::INTEGER_LEN,
-            wide::text_len(wide::wide_at(t, at + HEAD)),
-            t.len(),
-        ),
-        Step::Binding(len) => {
-            let n = len - HEAD + 3;
-            let m = measure_tree(t, at + len, depth - 1, width, indent, column + n);
-            if 0 < m.number {
-                return stopped(m.number, m.place);
+impl Page<'_> {
+    // The tree at `at`, with `depth` lists and bindings still to be opened. Its place and its layout stay apart as in `print_wrapped`.
+    #[cycle(measure_list_measure_tree)]
+    fn measure_tree(
+        &self,
+        at: usize,
+        depth: usize,
+        indent: usize,
+        column: usize,
+    ) -> Result<Size, Refusal>
+        requires { (at ≤ length self.now.table.now) × (indent + depth ≤ depth_limit) × (column ≤ at + 4 * depth_limit) }
+        ensures { Sized self.now.table.now at (tree_at self.now.table.now depth at) self.now.width indent column result }
+    {
+        let table = self.table;
+        // By the cost that it stores it is on a single line: the walk over it judges it, and if that cost is wrong there is no text to measure.
+        if records::kind_at(table, at) == Kind::List as usize
+            && cost::fits_in(self.width as usize, column, table::stored_cost(table, at))
+        {
+            return self.measure_line(at, depth);
+        }
+        match table::step_at(table, at, 0 < depth) {
+            Err(fault) => Err(fault.at(at)),
+            Ok(Record::Symbol(len)) => Ok(atom(at + len, len - HEAD)),
+            Ok(Record::Integer) => Ok(atom(
+                at + table::INTEGER_LEN,
+                wide::text_len(wide::wide_at(table, at + HEAD)),
+            )),
+            Ok(Record::Binding(len)) => {
+                let n = len - HEAD + 3;
+                let m = self.measure_tree(at + len, depth - 1, indent, column + n)?;
+                Ok(Size {
+                    cost: n + m.cost,
+                    len: n + m.len,
+                    ..m
+                })
             }
-            let cost = n + m.cost;
-            let laid = n + m.len;
-            Size {
-                number: 0,
-                place: m.place,
-                cost,
-                wrong: m.wrong,
-                len: laid,
+            Ok(Record::List(n)) => {
+                if n == 0 {
+                    return self.measure_line(at, depth);
+                }
+                self.measure_list(at, n, depth - 1, indent, column)
             }
         }
-        Step::List(n) => {
-            if n == 0 {
-                return measure_line(t, at, depth);
+    }
+
+    // The tree at `at` on a single line.
+    fn measure_line(&self, at: usize, depth: usize) -> Result<Size, Refusal>
+        requires { at ≤ length self.now.table.now }
+        ensures { Straight self.now.table.now at (tree_at self.now.table.now depth at) result }
+    {
+        let x = walk::walk_tree(self.table, at, depth)?;
+        Ok(Size {
+            place: x.place,
+            cost: x.cost,
+            wrong: x.wrong,
+            len: x.cost + x.empty,
+        })
+    }
+
+    // The list of n items at `at`, which does not fit and is wrapped. A symbol takes no call of its own.
+    #[cycle(measure_list_measure_tree)]
+    fn measure_list(
+        &self,
+        at: usize,
+        n: usize,
+        depth: usize,
+        indent: usize,
+        column: usize,
+    ) -> Result<Size, Refusal>
+        requires { (at + list_len ≤ length self.now.table.now) × (indent + 1 + depth ≤ depth_limit) × (column ≤ at + 4 * depth_limit) × (0 < n) × (n < 4294967296)
+            × (fits_in self.now.width column (stored_cost self.now.table.now at) ≡ false) }
+        ensures { Sized self.now.table.now at (and_then (items_at (tree_at self.now.table.now depth) n (at + list_len)) (λ xs q. ok (found (list xs) q))) self.now.width indent column result }
+    {
+        let table = self.table;
+        let mut p = at + table::LIST_LEN;
+        let mut cost = n + 1;
+        let mut wrong = None;
+        let mut len = room::nl_len(indent) + 2;
+        for i in 0..n {
+            let q = table::past_symbol(table, p);
+            if p < q {
+                let k = q - p - HEAD;
+                cost += k;
+                len += k;
+                p = q;
+            } else {
+                let m = self.measure_tree(
+                    p,
+                    depth,
+                    gaps::item_indent(i == 0, indent),
+                    gaps::item_column(i == 0, indent, column + 1),
+                )?;
+                cost += m.cost;
+                wrong = walk::earlier(wrong, m.wrong);
+                len += m.len;
+                p = m.place;
             }
-            measure_list(t, at, n, depth - 1, width, indent, column)
         }
+        let breaks = (n - 1) * room::nl_len(indent + 1);
+        let own = walk::own_wrong(table, at, cost);
+        Ok(Size {
+            place: p,
+            cost,
+            wrong: walk::earlier(own, wrong),
+            len: len + breaks,
+        })
     }
-}
 
-// The tree at `at` on a single line.
-fn measure_line(t: &[u8], at: usize, depth: usize) -> Size
-    requires { (at ≤ length t.now) × (length t.now ≤ table_limit) }
-    ensures { Straight t.now at (tree_at t.now depth at) result }
-{
-    let x = walk::walk_tree(t, at, depth);
-    if 0 < x.number {
-        return stopped(x.number, x.place);
-    }
-    let len = x.cost + x.empty;
-    Size {
-        number: 0,
-        place: x.place,
-        cost: x.cost,
-        wrong: x.wrong,
-        len,
-    }
-}
-
-// The list of n items at `at`, which does not fit and is wrapped. A symbol takes no call of its own.
-#[cycle(measure_list_measure_tree)]
-fn measure_list(
-    t: &[u8],
-    at: usize,
-    n: usize,
-    depth: usize,
-    width: usize,
-    indent: usize,
-    column: usize,
-) -> Size
-    requires { (at + list_len ≤ length t.now) × (length t.now ≤ table_limit) × (indent + 1 + depth ≤ depth_limit) × (column ≤ at + 4 * depth_limit) × (0 < n) × (n < 4294967296)
-        × (fits_in width column (stored_cost t.now at) ≡ false) }
-    ensures { Sized t.now at (and_then (items_at (tree_at t.now depth) n (at + list_len)) (λ xs q. ok (found (list xs) q))) width indent column result }
-{
-    let mut p = at + table::LIST_LEN;
-    let mut i = 0;
-    let mut cost = n + 1;
-    let mut wrong = t.len();
-    let mut len = room::nl_len(indent) + 2;
-    while i < n {
-        let q = table::past_symbol(t, p);
-        if p < q {
-            let k = q - p - HEAD;
-            cost = cost + k;
-            len = len + k;
-            p = q;
-        } else {
-            let m = measure_tree(
-                t,
-                p,
-                depth,
-                width,
-                gaps::item_indent(i == 0, indent),
-                gaps::item_column(i == 0, indent, column + 1),
-            );
-            if 0 < m.number {
-                return stopped(m.number, m.place);
+    // The bytes of the text of the table, or its refusal: the first in the order of its records, then the first wrong cost.
+    pub fn measure(&self) -> Result<usize, Refusal>
+        ensures { Summed (table_of self.now.table.now) self.now.width result }
+    {
+        let table = self.table;
+        let mut p = 0;
+        let mut wrong = None;
+        let mut w = 0;
+        // No `for`: the next place is where a tree ends.
+        while p < table.len() {
+            let m = self.measure_tree(p, refusals::DEPTH_LIMIT, 0, 0)?;
+            wrong = walk::earlier(wrong, m.wrong);
+            if 0 < p {
+                w += 1;
             }
-            cost = cost + m.cost;
-            wrong = walk::earlier(wrong, m.wrong, t.len());
-            len = len + m.len;
+            w += m.len + 1;
             p = m.place;
         }
-        i += 1;
-    }
-    let breaks = (n - 1) * room::nl_len(indent + 1);
-    let laid = len + breaks;
-    let own = walk::own_wrong(t, at, cost);
-    Size {
-        number: 0,
-        place: p,
-        cost,
-        wrong: walk::earlier(own, wrong, t.len()),
-        len: laid,
-    }
-}
-
-// The bytes of the text of a table, or its refusal: 1, then the first in the order of its records, then the first wrong cost.
-pub fn measure(t: &[u8], width: usize) -> Measured
-    ensures { Summed (table_of t.now) width result }
-{
-    if refusals::TABLE_LIMIT < t.len() {
-        return refused(refusals::TOO_LONG, refusals::TABLE_LIMIT);
-    }
-    let mut p = 0;
-    let mut wrong = t.len();
-    let mut w = 0;
-    while p < t.len() {
-        let m = measure_tree(t, p, refusals::DEPTH_LIMIT, width, 0, 0);
-        if 0 < m.number {
-            return refused(m.number, m.place);
+        match wrong {
+            Some(place) => Err(Fault::WrongCost.at(place)),
+            None => Ok(w),
         }
-        wrong = walk::earlier(wrong, m.wrong, t.len());
-        if 0 < p {
-            w = w + 1;
-        }
-        w = w + m.len + 1;
-        p = m.place;
     }
-    if wrong < t.len() {
-        return refused(refusals::WRONG_COST, wrong);
-    }
-    Measured::Bytes(w)
 }

@@ -1,5 +1,7 @@
-// A room that may be too short: what is put there is there only if it fits, and its length is known all the same.
-ghost use Rattle.std.specs.Prelude.{◌≡◌, cond, ◌∷◌, [], ◌≤◌, length};
+// A room that may be too short: what is put there is there only if it fits, and its length is known all the same. No writer holds a room and what is written of
+// it: each put gets the rest of the room lent, as document 01 wants each tree written.
+ghost use Rattle.std.specs.Prelude.{◌≡◌, ◌∷◌, [], ◌≤◌, length};
+ghost use Rattle.std.specs.Option.{option_to_list};
 ghost use Rattle.refusals.specs.Numbers.{depth_limit};
 ghost use Rattle.printer.specs.Layout.{bytes, nl as nl_of};
 ghost use Rattle.lists.specs.Rooms.{Puts};
@@ -14,13 +16,13 @@ pub fn put_byte(b: u8, out: &mut [u8]) -> usize
     1
 }
 
-pub fn put_unless(none: bool, b: u8, out: &mut [u8]) -> usize
-    ensures { Puts (cond none [] (b ∷ [])) result out.old out.new }
+pub fn put_optional(b: Option<u8>, out: &mut [u8]) -> usize
+    ensures { Puts (option_to_list b) result out.old out.new }
 {
-    if none {
-        return 0;
+    match b {
+        Some(b) => put_byte(b, out),
+        None => 0,
     }
-    put_byte(b, out)
 }
 
 // The bytes of a line break: LF, and 4 spaces for each indent.
@@ -39,11 +41,7 @@ pub fn nl(indent: usize, out: &mut [u8]) -> usize
     if out.len() < n {
         return n;
     }
-    let mut i = 0;
-    while i < n {
-        out[i] = b' ';
-        i += 1;
-    }
+    out[..n].fill(b' ');
     out[0] = b'\n';
     n
 }

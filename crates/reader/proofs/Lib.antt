@@ -1,6 +1,7 @@
 pub mod Derivation
 pub mod Bounds
 pub mod Begins
+pub mod Behind
 pub mod AtHand
 pub mod Walk
 pub mod WholeFiles

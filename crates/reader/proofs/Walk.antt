@@ -5,41 +5,40 @@ use mathlib.Core.List.{List, [], ◌++◌, append_assoc, append-nil}
 use Prim.Native.Nat.{ℕ, suc, ◌+◌, ◌*◌, ◌-◌, ◌≤◌, ◌<◌}
 use native.Mathlib.Omega.{arith}
 use lib.Dec.{ltb}
-use lib.ListN.{length, get_or, take, drop, length-append}
-use lib.Seq.{take_at, drop_at, drop-drop}
-use borrow.Author.Tests.{lt-ltb}
-use borrow.Rule.Slice.PartMut.{put_mid}
-use Rattle.refusals.specs.Numbers.{source_limit, table_limit, too_deep}
+use lib.ListN.{length, get_or, take, drop, length-drop}
+use borrow.Author.Tests.{lt-ltb, le-ltb}
+use Rattle.refusals.specs.Numbers.{source_limit, table_limit, no_tree, too_deep}
 use Rattle.refusals.specs.Result.{Result, ok, refused, and_then}
-use Rattle.lists.specs.Over.{over}
-use Rattle.lists.proofs.Rooms.{puts_both}
-use Rattle.lists.proofs.Writing.{part_length}
+use Rattle.lists.specs.Over.{over, fitted}
+use Rattle.lists.proofs.Blocks.{fitted_over}
 use Rattle.classes.specs.Classes.{class_of, is_at_sign}
-use Rattle.lexer.specs.Tokens.{Kind, lparen, rparen, at_sign, symbol, int, token, Answer, end, is}
+use Rattle.lexer.specs.Tokens.{rparen, at_sign, symbol, token, Answer, end, is}
 use Rattle.lexer.specs.Lexing.{next_token}
 use Rattle.lexer.specs.Gaps.{gap_end}
-use Rattle.lexer.proofs.Skips.{gap_next_lem, gap_sign, gap_other}
-use Rattle.lexer.proofs.Starts.{sign_within}
+use Rattle.lexer.proofs.Skips.{gap_sign}
 use Rattle.lexer.proofs.Within.{limited}
 use Rattle.records.specs.Records.{head_len, record_of}
 use Rattle.records.proofs.Heads.{length_record}
-use Rattle.table.specs.Kinds.{symbol_kind, binding_kind}
-use Rattle.table.specs.Trees.{Tree, Trees, symbol as symbol_tree, count, cost, costs, records, records_of}
+use Rattle.table.specs.Kinds.{binding_kind}
+use Rattle.table.specs.Trees.{Tree, Trees, count, cost, costs, records, records_of}
 use Rattle.table.proofs.Costs.{cost_le}
 use Rattle.reader.specs.Grammar.{One, got, closed, ended, Many, up_to, to_end, cons, onward, bound, name_of, after, read_items, read_tree}
 use Rattle.lists.specs.Rooms.{Filled, Puts}
-use Rattle.reader.specs.PrivateWalk.{Lexes, due, CostTold, FilledFrom, TreeTold, ItemsTold, LeftKind, LeftOver, Seen}
-use Rattle.reader.specs.declared.parts.Look.{Look}
-use Rattle.reader.specs.declared.parts.Stop.TheVariants as stop
+use Rattle.reader.specs.PrivateWalk.{Lexes, CostTold, TreeIs, ItemsAre}
+use Rattle.reader.specs.declared.One.{One as OneRead}
+use Rattle.reader.specs.declared.Stop.TheVariants as stop
+use Rattle.reader.proofs.Behind.{puts_behind}
 use Rattle.reader.proofs.Derivation.{OneIs, tree_is}
-use Rattle.reader.proofs.Bounds.{place, weigh, Spans, spans, name_spans, name_length, past_top, weigh_top}
-use Rattle.reader.proofs.Begins.{read_end, read_rparen, read_name, read_bind, read_bind_deep}
-
--- what the code's test for an `@` tells of the byte
-pub sign_told : (r v : Bool) (b k : ℕ) → b ≡ k → r ≡ is_at_sign (class_of b) → r ≡ v → is_at_sign (class_of k) ≡ v
-sign_told r v b k e f g = sym (ap (λ (n : ℕ). is_at_sign (class_of n)) e) ∙ sym f ∙ g
+use Rattle.reader.proofs.Bounds.{place, place_top, weigh, Spans, spans, name_spans, name_length, past_top, weigh_top}
+use Rattle.reader.proofs.Begins.{read_end, read_refused, read_rparen, read_bind, read_bind_deep}
 
 -- ---- what is left
+
+-- where a tree is due, a `)` or the end is refused
+abbrev pub due : List ℕ → One → Result One
+due s (got x a) = ok (got x a)
+due s (closed t) = refused no_tree t.start
+due s ended = refused no_tree (length s)
 
 -- of the whole w, k trees whose records are o and whose costs come to v stand before y
 abbrev Before : ℕ → List ℕ → ℕ → Result Many → Result Many → Type 0
@@ -67,14 +66,14 @@ before_more k o v w x (refused m p) h = h
 abbrev Left : ℕ → List ℕ → ℕ → Result Many → (Answer → Result Many) → Result One → Type 0
 Left k o v w f (ok (got x a)) = Before (k + 1) (o ++ records x) (v + cost x) w (f a)
 Left k o v w f (ok (closed t)) = (ys : Trees) × (w ≡ ok (up_to ys t)) × (count ys ≡ k) × (records_of ys ≡ o) × (costs ys ≡ v)
-Left k o v w f (ok ended) = (ys : Trees) × (w ≡ ok (to_end ys)) × (records_of ys ≡ o) × (costs ys ≡ v)
+Left k o v w f (ok ended) = (ys : Trees) × (w ≡ ok (to_end ys)) × (count ys ≡ k) × (records_of ys ≡ o) × (costs ys ≡ v)
 Left k o v w f (refused m p) = w ≡ refused m p
 
 left_of : (k : ℕ) (o : List ℕ) (v : ℕ) (w : Result Many) (f : Answer → Result Many) (y : Result One) → Before k o v w (and_then y (onward f)) → Left k o v w f y
 unfolding records cost
 left_of k o v w f (ok (got x a)) h = before_more k o v w x (f a) h
 left_of k o v w f (ok (closed t)) h = (h.0, h.1, omega (arith, h.2), h.3 ∙ append-nil o, omega (arith, h.4))
-left_of k o v w f (ok ended) h = (h.0, h.1, h.3 ∙ append-nil o, omega (arith, h.4))
+left_of k o v w f (ok ended) h = (h.0, h.1, omega (arith, h.2), h.3 ∙ append-nil o, omega (arith, h.4))
 left_of k o v w f (refused m p) h = h
 
 left_bound : (k : ℕ) (o : List ℕ) (v : ℕ) (w : Result Many) (f : Answer → Result Many) (s n : List ℕ) (y : Result One) → Left k o v w f (and_then y (bound s n))
@@ -88,7 +87,7 @@ left_bound k o v w f s n (ok (closed t)) h = h
 left_bound k o v w f s n (ok ended) h = h
 left_bound k o v w f s n (refused m p) h = h
 
--- where a tree is due, a `)` or the end is refused
+-- y, where a tree is due or where none is
 abbrev pub awaited : List ℕ → Bool → Result One → Result One
 awaited s true y = and_then y (due s)
 awaited s false y = y
@@ -109,21 +108,6 @@ awaited_bound s true n (ok (closed t)) = refl
 awaited_bound s true n (ok ended) = refl
 awaited_bound s true n (refused m p) = refl
 
--- ---- what is written
-
--- bytes were put from the first free byte on
-puts_from : (o o' b₀ b b' : List ℕ) (w : ℕ) → Puts o w b₀ b → length b ≡ length b₀ → FilledFrom w o' b b' → Puts (o ++ o') (w + length o') b₀ b'
-puts_from o o' b₀ b b' w p k f =
-    let n : length (o ++ o') ≡ w + length o' = length-append o o' ∙ ap (λ (i : ℕ). i + length o') (sym p.0) in (
-      sym n,
-      λ l.
-          let h : b ≡ over o b₀ = p.1 (omega (arith, p.0)) in
-          let front : take w b ≡ o = ap (take w) h ∙ take_at o (drop (length o) b₀) w (sym p.0) in
-          let back : drop w b ≡ drop w b₀ = ap (drop w) h ∙ drop_at o (drop (length o) b₀) w (sym p.0) ∙ ap (λ (j : ℕ). drop j b₀) (sym p.0) in
-          f (omega arith) ∙ rw (front, back) (ap (λ (r : List ℕ). o ++ (o' ++ r)) (drop-drop (length o') w b₀)
-          ∙ rw n (sym (append_assoc o o' (drop (w + length o') b₀)))),
-    )
-
 -- ---- the turns
 
 pub got_spans : (s : List ℕ) (d : ℕ) (a b : Answer) (x : Tree) → Lexes s a → read_tree s d a ≡ ok (got x b) → Spans s a b (length (records x))
@@ -142,6 +126,26 @@ pub record Going (s : List ℕ) (depth : ℕ) (w : Result Many) (a₀ : Answer) 
   pub puts : Puts o size b₀ b
   pub same : length b ≡ length b₀
   pub left : Left n o u w (read_items (read_tree s depth) (length s - n)) (awaited s (ltb 0 j) (read_tree s (depth - j) a))
+
+-- where a turn that began at the token a then stands, and how far it came
+pub record Turn (s : List ℕ) (depth : ℕ) (w : Result Many) (a₀ : Answer) (b₀ : List ℕ) (a c : Answer) (j n size v : ℕ) (b : List ℕ) : Type 0 where
+  pub going : Going s depth w a₀ b₀ c j n size v b
+  pub on : place (length s) a < place (length s) c
+  pub top : place (length s) c ≤ length s
+  pub small : length s ≤ source_limit
+
+-- the bytes read so far, in a source that is not too long; and what they cost
+pub size_top : {s : List ℕ} {depth : ℕ} {w : Result Many} {a₀ : Answer} {b₀ : List ℕ} {a : Answer} {j n size v : ℕ} {b : List ℕ} → Going s depth w a₀ b₀ a j n size v b
+    → length s ≤ source_limit → size ≤ table_limit
+size_top {s} {a = a} g h = omega (arith, g.weighs, weigh_top s a g.lexes)
+
+-- trees read so far
+pub number_top : {s : List ℕ} {depth : ℕ} {w : Result Many} {a₀ : Answer} {b₀ : List ℕ} {a : Answer} {j n size v : ℕ} {b : List ℕ} → Going s depth w a₀ b₀ a j n size v b → n ≤ length s
+number_top {s} {a = a} g = omega (arith, g.on, place_top s a g.lexes)
+
+pub turn_small : {s : List ℕ} {depth : ℕ} {w : Result Many} {a₀ : Answer} {b₀ : List ℕ} {a c : Answer} {j n size v : ℕ} {b : List ℕ} → Turn s depth w a₀ b₀ a c j n size v b
+    → (size ≤ table_limit) × (v ≤ 2 * table_limit)
+turn_small q = let top = size_top q.going q.small in (top, omega (arith, q.going.costly, q.going.counts.0))
 
 pub starts : (s : List ℕ) (depth : ℕ) (a : Answer) (b : List ℕ) → Lexes s a
     → Going s depth (read_items (read_tree s depth) (suc (length s)) a) a b a 0 0 0 0 b
@@ -168,47 +172,63 @@ module _ {s : List ℕ} {depth : ℕ} {w : Result Many} {a₀ : Answer} {b₀ : 
   abbrev here : Result One
   here = awaited s (ltb 0 j) (read_tree s (depth - j) a)
 
-  -- the bytes read so far, in a source that is not too long
-  pub size_top : length s ≤ source_limit → size ≤ table_limit
-  size_top h = omega (arith, g.weighs, weigh_top s a g.lexes)
-
-  -- and what they cost
-  pub cost_top : length s ≤ source_limit → v ≤ 2 * table_limit
-  cost_top h = omega (arith, g.costly, g.counts.0, size_top h)
-
   -- what was read next costs k more, and was told to cost i more; its records end at z
   more_told : (i k z : ℕ) → size ≤ z → i ≤ k → (z ≤ length b₀ → i ≡ k) → CostTold (v + i) (g.u + k) z (length b₀)
   more_told i k z h l e =
       (omega (arith, g.counts.0), λ r. let ev : v ≡ g.u = g.counts.1 (omega arith) in let ei : i ≡ k = e r in omega arith)
 
-  -- a tree was read, and its records stand in the room
-  pub tree_turn : (x : Tree) (c : Answer) (k i : ℕ) (b' : List ℕ) → here ≡ ok (got x c) → Spans s a c (length (records x)) → k ≡ length (records x)
-      → CostTold i (cost x) (size + k) (length b₀) → Puts (g.o ++ records x) (size + k) b₀ b' → length b' ≡ length b₀
-      → Going s depth w a₀ b₀ c 0 (n + 1) (size + k) (v + i) b'
+  -- a tree was read, and its records put behind what was there
+  pub tree_turn : (a' : Answer) → a' ≡ a → (x : OneRead) (ys b' : List ℕ) → TreeIs s (read_tree s (depth - j) a') x (drop size b) ys
+      → b' ≡ take size b ++ ys → length b' ≡ length b → Turn s depth w a₀ b₀ a (next_token s x.place) 0 (n + 1) (size + x.size) (v + x.cost) b'
   unfolding read_items
-  tree_turn x c k i b' e q ek ei m l =
+  tree_turn a' ea x ys b' h e l =
       let f : Answer → Result One = read_tree s depth in
+      let c : Answer = next_token s x.place in
+      let reads : read_tree s (depth - j) a ≡ ok (got h.tree c) = ap (read_tree s (depth - j)) (sym ea) ∙ h.reads in
+      let q : Spans s a c (length (records h.tree)) = got_spans s (depth - j) a c h.tree g.lexes reads in
       let one : length s - n ≡ suc (length s - (n + 1)) = omega (arith, q.on, q.top, g.on) in
       let d : depth - 0 ≡ depth = omega arith in
-      let h : Before (n + 1) (g.o ++ records x) (g.u + cost x) w (read_items f (length s - n) c) = subst (Left n g.o g.u w (read_items f (length s - n))) e g.left in
+      let got_it : here ≡ ok (got h.tree c) = ap (awaited s (ltb 0 j)) reads ∙ awaited_got s (ltb 0 j) h.tree c in
+      let k : Before (n + 1) (g.o ++ records h.tree) (g.u + cost h.tree) w (read_items f (length s - n) c) = subst (Left n g.o g.u w (read_items f (length s - n))) got_it g.left in
       record {
-        lexes = q.lexes;
-        on = omega (arith, q.on, g.on);
-        deep = omega arith;
-        weighs = omega (arith, q.size, g.weighs);
-        u = g.u + cost x;
-        costly = omega (arith, g.costly, cost_le x);
-        counts = more_told i (cost x) (size + k) (omega arith) ei.0 ei.1;
-        o = g.o ++ records x;
-        puts = m;
-        same = l;
-        left = rw d (left_of (n + 1) (g.o ++ records x) (g.u + cost x) w (read_items f (length s - (n + 1))) (f c)
-            (subst (λ (r : ℕ). Before (n + 1) (g.o ++ records x) (g.u + cost x) w (read_items f r c)) one h));
+        going = record {
+          lexes = q.lexes;
+          on = omega (arith, q.on, g.on);
+          deep = omega arith;
+          weighs = omega (arith, q.size, g.weighs, h.size);
+          u = g.u + cost h.tree;
+          costly = omega (arith, g.costly, cost_le h.tree, h.size);
+          counts = more_told x.cost (cost h.tree) (size + x.size) (omega arith) h.told.0 (λ i. h.told.1 (omega (arith, length-drop size b, g.same, h.size)));
+          o = g.o ++ records h.tree;
+          puts = subst⁻¹ (Puts (g.o ++ records h.tree) (size + x.size) b₀) e (puts_behind g.o (records h.tree) b₀ b ys size x.size g.puts g.same (h.size, h.filled));
+          same = l ∙ g.same;
+          left = rw d (left_of (n + 1) (g.o ++ records h.tree) (g.u + cost h.tree) w (read_items f (length s - (n + 1))) (f c)
+              (subst (λ (i : ℕ). Before (n + 1) (g.o ++ records h.tree) (g.u + cost h.tree) w (read_items f i c)) one k));
+        };
+        on = q.on;
+        top = q.top;
+        small = q.small;
       }
 
-  -- what was awaited is refused
-  pub refused_turn : (m p : ℕ) → here ≡ refused m p → w ≡ refused m p
+  -- what is awaited is refused; where a tree is due, so are a `)` and the end
+  refused_turn : (m p : ℕ) → here ≡ refused m p → w ≡ refused m p
   refused_turn m p e = subst (Left n g.o g.u w (read_items (read_tree s depth) (length s - n))) e g.left
+
+  pub no_tree_turn : (m p : ℕ) → read_tree s (depth - j) a ≡ refused m p → w ≡ refused m p
+  no_tree_turn m p e = refused_turn m p (ap (awaited s (ltb 0 j)) e ∙ awaited_refused s (ltb 0 j) m p)
+
+  pub no_token_turn : (m p : ℕ) → a ≡ refused m p → w ≡ refused m p
+  no_token_turn m p e = no_tree_turn m p (ap (read_tree s (depth - j)) e ∙ read_refused s (depth - j) m p)
+
+  awaits : (d : Bool) → ltb 0 j ≡ d → (c : Answer) → a ≡ c → here ≡ awaited s d (read_tree s (depth - j) c)
+  awaits d f c e = ap (λ (d : Bool). awaited s d (read_tree s (depth - j) a)) f ∙ ap (λ (x : Answer). awaited s d (read_tree s (depth - j) x)) e
+
+  pub due_close_turn : (p : ℕ) → a ≡ ok (is (token rparen p 1)) → 0 < j → w ≡ refused no_tree p
+  due_close_turn p e f =
+      refused_turn no_tree p (awaits true (lt-ltb 0 j f) (ok (is (token rparen p 1))) e ∙ ap (awaited s true) (read_rparen s (depth - j) (token rparen p 1) refl))
+
+  pub due_end_turn : a ≡ ok end → 0 < j → w ≡ refused no_tree (length s)
+  due_end_turn e f = refused_turn no_tree (length s) (awaits true (lt-ltb 0 j f) (ok end) e ∙ ap (awaited s true) (read_end s (depth - j)))
 
   -- the records of trees in a row are those that were written
   filled : (ys : Trees) → records_of ys ≡ g.o → Filled (records_of ys) b₀ b
@@ -218,189 +238,84 @@ module _ {s : List ℕ} {depth : ℕ} {w : Result Many} {a₀ : Answer} {b₀ : 
   told_of ys e f =
       let m : size ≡ length (records_of ys) = g.puts.0 ∙ sym (ap length e) in (omega (arith, g.counts.0), λ l. g.counts.1 (omega arith) ∙ sym f)
 
-  pub close_turn : (p : ℕ) → a ≡ ok (is (token rparen p 1)) → ltb 0 j ≡ false → ItemsTold w stop.Close 0 p n size v b₀ b
+  none_due : j ≤ 0 → ltb 0 j ≡ false
+  none_due f = le-ltb 0 j f
+
+  pub close_turn : (p : ℕ) → a ≡ ok (is (token rparen p 1)) → j ≤ 0 → ItemsAre w (record { stop = stop.Close p; n = n; size = size; cost = v }) b₀ b
   close_turn p e f =
-      let h : here ≡ ok (closed (token rparen p 1)) =
-      ap (λ (d : Bool). awaited s d (read_tree s (depth - j) a)) f ∙ ap (read_tree s (depth - j)) e ∙ read_rparen s (depth - j) (token rparen p 1) refl in
+      let h : here ≡ ok (closed (token rparen p 1)) = awaits false (none_due f) (ok (is (token rparen p 1))) e ∙ read_rparen s (depth - j) (token rparen p 1) refl in
       let k = subst (Left n g.o g.u w (read_items (read_tree s depth) (length s - n))) h g.left in
-      (k.0, token rparen p 1, k.1, refl, sym k.2, g.puts.0 ∙ sym (ap length k.3), told_of k.0 k.3 k.4, filled k.0 k.3)
+      record {
+        trees = k.0;
+        stopped = (token rparen p 1, k.1, refl);
+        number = sym k.2;
+        size = g.puts.0 ∙ sym (ap length k.3);
+        told = told_of k.0 k.3 k.4;
+        filled = filled k.0 k.3;
+      }
 
-  pub end_turn : (p : ℕ) → a ≡ ok end → ltb 0 j ≡ false → ItemsTold w stop.End 0 p n size v b₀ b
-  end_turn p e f =
-      let h : here ≡ ok ended =
-      ap (λ (d : Bool). awaited s d (read_tree s (depth - j) a)) f ∙ ap (read_tree s (depth - j)) e ∙ read_end s (depth - j) in
+  pub end_turn : a ≡ ok end → j ≤ 0 → ItemsAre w (record { stop = stop.End; n = n; size = size; cost = v }) b₀ b
+  end_turn e f =
+      let h : here ≡ ok ended = awaits false (none_due f) (ok end) e ∙ read_end s (depth - j) in
       let k = subst (Left n g.o g.u w (read_items (read_tree s depth) (length s - n))) h g.left in
-      (k.0, k.1, g.puts.0 ∙ sym (ap length k.2), told_of k.0 k.2 k.3, filled k.0 k.2)
+      record {
+        trees = k.0;
+        stopped = k.1;
+        number = sym k.2;
+        size = g.puts.0 ∙ sym (ap length k.3);
+        told = told_of k.0 k.3 k.4;
+        filled = filled k.0 k.3;
+      }
 
-  -- the token is a symbol of m bytes, and q the place behind the gap after it
-  module _ (p m : ℕ) (e : a ≡ ok (is (token symbol p m))) where
-    abbrev its : List ℕ
-    its = name_of s (token symbol p m)
-
+  -- the token is a symbol of m bytes k, and behind the gap after it, at q, stands an `@`
+  module _ (p m : ℕ) (e : a ≡ ok (is (token symbol p m))) (q : ℕ) (eq : q ≡ gap_end s (p + m)) (yes : is_at_sign (class_of (get_or s q 0)) ≡ true) where
     its_lexes : Lexes s (ok (is (token symbol p m)))
     its_lexes = subst (Lexes s) e g.lexes
 
-    pub its_end : p + m ≤ length s
-    its_end = past_top s (token symbol p m) its_lexes
+    sign : after s (token symbol p m) ≡ ok (is (token at_sign q 1))
+    sign = rw eq (gap_sign s (p + m) (limited s its_lexes.place (token symbol p m) its_lexes.gives) (ap (λ (i : ℕ). is_at_sign (class_of (get_or s i 0))) (sym eq) ∙ yes))
 
-    pub its_small : length s ≤ source_limit
-    its_small = limited s its_lexes.place (token symbol p m) its_lexes.gives
+    pub deep_turn : j ≡ depth → w ≡ refused too_deep p
+    deep_turn f =
+        no_tree_turn too_deep p (ap (read_tree s (depth - j)) e
+        ∙ read_bind_deep s (depth - j) (token symbol p m) (token at_sign q 1) refl sign refl (omega arith))
 
-    its_size : length its ≡ m
-    its_size = name_length s (token symbol p m) its_end
-
-    its_length : (k : ℕ) → m + head_len ≡ length (record_of k its)
-    its_length k = sym (length_record k its ∙ ap (λ (i : ℕ). i + head_len) its_size)
-
-    -- its record, as the code puts it
-    its_record : (k : ℕ) (b' : List ℕ) → FilledFrom size (record_of k (take (p + m - p) (drop p s))) b b'
-        → Puts (g.o ++ record_of k its) (size + (m + head_len)) b₀ b'
-    its_record k b' f =
-        let d : p + m - p ≡ m = omega arith in
-        subst⁻¹ (λ (i : ℕ). Puts (g.o ++ record_of k its) (size + i) b₀ b') (its_length k)
-        (puts_from g.o (record_of k its) b₀ b b' size g.puts g.same (subst (λ (i : ℕ). FilledFrom size (record_of k (take i (drop p s))) b b') d f))
-
-    -- its bytes, as the code tells them
-    its_told : (i : ℕ) → CostTold i (p + m - p) (size + (p + m - p) + head_len) (length b) → CostTold i m (size + (m + head_len)) (length b₀)
-    its_told i h = (omega (arith, h.0), λ l. h.1 (omega (arith, g.same)) ∙ omega arith)
-
-    module _ (q : ℕ) (eq : q ≡ gap_end s (p + m)) where
-      -- no `@` stands there
-      module _ (no : is_at_sign (class_of (get_or s q 0)) ≡ false) where
-        alone : read_tree s (depth - j) a ≡ ok (got (symbol_tree its) (next_token s q))
-        alone =
-            ap (read_tree s (depth - j)) e ∙ read_name s (depth - j) (token symbol p m) refl (gap_other s (p + m) (ap (λ (i : ℕ). is_at_sign (class_of (get_or s i 0))) (sym eq) ∙ no))
-            ∙ ap (λ (x : Answer). ok (got (symbol_tree its) x)) (sym (ap (next_token s) eq ∙ gap_next_lem s (p + m)))
-
-        pub symbol_spans : Spans s a (next_token s q) (m + head_len)
-        unfolding records
-        symbol_spans = subst⁻¹ (Spans s a (next_token s q)) (its_length symbol_kind) (got_spans s (depth - j) a (next_token s q) (symbol_tree its) g.lexes alone)
-
-        pub symbol_turn : (i : ℕ) (b' : List ℕ) → CostTold i (p + m - p) (size + (p + m - p) + head_len) (length b)
-            → FilledFrom size (record_of symbol_kind (take (p + m - p) (drop p s))) b b' → length b' ≡ length b
-            → Going s depth w a₀ b₀ (next_token s q) 0 (n + 1) (size + (m + head_len)) (v + i) b'
-        unfolding records cost
-        symbol_turn i b' h f l =
-            tree_turn (symbol_tree its) (next_token s q) (m + head_len) i b' (ap (awaited s (ltb 0 j)) alone ∙ awaited_got s (ltb 0 j) (symbol_tree its) (next_token s q))
-            (got_spans s (depth - j) a (next_token s q) (symbol_tree its) g.lexes alone) (its_length symbol_kind)
-            (subst⁻¹ (λ (k : ℕ). CostTold i k (size + (m + head_len)) (length b₀)) its_size (its_told i h)) (its_record symbol_kind b' f) (l ∙ g.same)
-
-      module _ (yes : is_at_sign (class_of (get_or s q 0)) ≡ true) where
-        sign : after s (token symbol p m) ≡ ok (is (token at_sign q 1))
-        sign = rw eq (gap_sign s (p + m) its_small (ap (λ (i : ℕ). is_at_sign (class_of (get_or s i 0))) (sym eq) ∙ yes))
-
-        pub sign_in : q < length s
-        sign_in = sign_within s q yes
-
-        pub deep_turn : j ≡ depth → w ≡ refused too_deep p
-        deep_turn f =
-            refused_turn too_deep p (ap (awaited s (ltb 0 j)) (ap (read_tree s (depth - j)) e
-            ∙ read_bind_deep s (depth - j) (token symbol p m) (token at_sign q 1) refl sign refl (omega arith)) ∙ awaited_refused s (ltb 0 j) too_deep p)
-
-        pub bind_spans : Spans s a (next_token s (q + 1)) (m + head_len)
-        bind_spans =
-            subst⁻¹ (Spans s a (next_token s (q + 1))) (its_length binding_kind)
-            (subst⁻¹ (λ (x : Answer). Spans s x (next_token s (q + 1)) (length (record_of binding_kind its))) e
-            (name_spans s (token symbol p m) (token at_sign q 1) its_lexes sign))
-
-        pub bind_turn : (i : ℕ) (b' : List ℕ) → (j ≡ depth → ⊥) → CostTold i (p + m - p) (size + (p + m - p) + head_len) (length b)
-            → FilledFrom size (record_of binding_kind (take (p + m - p) (drop p s))) b b' → length b' ≡ length b
-            → Going s depth w a₀ b₀ (next_token s (q + 1)) (j + 1) n (size + (m + head_len)) (v + (i + 3)) b'
-        bind_turn i b' nd ht f l =
-            let t' = its_told i ht in
-            let F : Answer → Result Many = read_items (read_tree s depth) (length s - n) in
-            let y : Result One = read_tree s (depth - j - 1) (next_token s (q + 1)) in
-            let r : here ≡ and_then y (bound s its) =
-            ap (awaited s (ltb 0 j)) (ap (read_tree s (depth - j)) e
-            ∙ read_bind s (depth - j) (token symbol p m) (token at_sign q 1) refl sign refl (λ z. nd (omega (arith, g.deep)))) ∙ awaited_bound s (ltb 0 j) its y in
-            let h : Left n (g.o ++ record_of binding_kind its) (g.u + (m + 3)) w F (and_then y (due s)) =
-            subst (λ (i : ℕ). Left n (g.o ++ record_of binding_kind its) (g.u + (i + 3)) w F (and_then y (due s))) its_size
-            (left_bound n g.o g.u w F s its y (subst (Left n g.o g.u w F) r g.left)) in
-            let t : ltb 0 (j + 1) ≡ true = lt-ltb 0 (j + 1) (omega arith) in
-            let dj : depth - (j + 1) ≡ depth - j - 1 = omega arith in
-            record {
-              lexes = bind_spans.lexes;
-              on = omega (arith, bind_spans.on, g.on);
-              deep = omega (arith, g.deep, nd);
-              weighs = omega (arith, bind_spans.size, g.weighs);
-              u = g.u + (m + 3);
-              costly = omega (arith, g.costly);
-              counts = more_told (i + 3) (m + 3) (size + (m + head_len)) (omega arith) (omega (arith, t'.0)) (λ l. ap (λ (k : ℕ). k + 3) (t'.1 l));
-              o = g.o ++ record_of binding_kind its;
-              puts = its_record binding_kind b' f;
-              same = l ∙ g.same;
-              left = rw (t, dj) h;
-            }
-
-  -- what the routine for a tree is called on, and what it told
-  module _ (lo : LeftOver (ltb 0 j) a) where
-    over_due : here ≡ and_then (read_tree s (depth - j) a) (due s)
-    over_due = by (ltb 0 j) (read_tree s (depth - j) a) (tree_is s (depth - j) a) lo
-      where
-        by : (d : Bool) (y : Result One) → OneIs s (depth - j) a y → LeftOver d a → awaited s d y ≡ and_then y (due s)
-        by true y h k = refl
-        by false (ok (got x c)) h k = refl
-        by false (refused m p) h k = refl
-        by false (ok (closed t)) h k =
-            let z = subst (LeftKind false) h.1 (subst (LeftOver false) h.0 k) in
-            absurd (let y : ◌≡◌ {A = ℕ} 0 1 = cc in omega arith)
-        by false (ok ended) h k = let z = subst (LeftOver false) h k in absurd (let y : ◌≡◌ {A = ℕ} 0 1 = cc in omega arith)
-
-    module _ (a' : Answer) (ea : a' ≡ a) (t : Bool) (m p i k : ℕ) (b₁ ys : List ℕ) (h : TreeTold s (and_then (read_tree s (depth - j) a') (due s)) t m p i k b₁ ys) where
-      told_as : (t' : Bool) → t ≡ t' → TreeTold s (and_then (read_tree s (depth - j) a) (due s)) t' m p i k b₁ ys
-      told_as t' e =
-          subst (λ (t : Bool). TreeTold s (and_then (read_tree s (depth - j) a) (due s)) t m p i k b₁ ys) e
-          (subst (λ (x : Answer). TreeTold s (and_then (read_tree s (depth - j) x) (due s)) t m p i k b₁ ys) ea h)
-
-      pub no_tree_turn : t ≡ true → w ≡ refused m p
-      no_tree_turn e = refused_turn m p (over_due ∙ told_as true e)
-
-      module _ (e : t ≡ false) where
-        told : (x : Tree) × (and_then (read_tree s (depth - j) a) (due s) ≡ ok (got x (next_token s p))) × (i ≡ length (records x))
-            × CostTold k (cost x) (length (records x)) (length b₁) × Filled (records x) b₁ ys
-        told = told_as false e
-
-        told_is : read_tree s (depth - j) a ≡ ok (got told.0 (next_token s p))
-        told_is = by (read_tree s (depth - j) a) told.1
-          where
-            by : (y : Result One) → and_then y (due s) ≡ ok (got told.0 (next_token s p)) → y ≡ ok (got told.0 (next_token s p))
-            by (ok (got z d)) e = e
-            by (ok (closed t)) e = absurd (let z : ◌≡◌ {A = ℕ} 0 1 = cc in omega arith)
-            by (ok ended) e = absurd (let z : ◌≡◌ {A = ℕ} 0 1 = cc in omega arith)
-            by (refused m p) e = absurd (let z : ◌≡◌ {A = ℕ} 0 1 = cc in omega arith)
-
-        pub told_spans : Spans s a (next_token s p) i
-        told_spans = subst⁻¹ (Spans s a (next_token s p)) told.2 (got_spans s (depth - j) a (next_token s p) told.0 g.lexes told_is)
-
-        -- a cost is less than twice the bytes of its records
-        pub told_cost : k ≤ 2 * i
-        told_cost = omega (arith, told.2, told.3.0, cost_le told.0)
-
-        pub told_turn : (r : ℕ) → b₁ ≡ take (length b - r) (drop r b) → (size ≤ length b → r ≡ size) → length (put_mid r (length b - r) b ys) ≡ length b
-            → Going s depth w a₀ b₀ (next_token s p) 0 (n + 1) (size + i) (v + k) (put_mid r (length b - r) b ys)
-        told_turn r eb er l =
-            let room : size + i ≤ length b₀ → length (records told.0) ≤ length b₁ =
-            λ h.
-            let er' : r ≡ size = er (omega (arith, g.same)) in
-            let part : length b₁ ≡ length b - r = ap length eb ∙ part_length r b in
-            omega (arith, told.2, g.same) in
-            tree_turn told.0 (next_token s p) i k (put_mid r (length b - r) b ys) (over_due ∙ told.1)
-            (got_spans s (depth - j) a (next_token s p) told.0 g.lexes told_is) told.2 (told.3.0, λ h. told.3.1 (room h))
-            (puts_both g.o (records told.0) b₀ b ys size i r g.puts er (told.2, subst (λ (x : List ℕ). Filled (records told.0) x ys) eb told.4)) (l ∙ g.same)
-
--- ---- at the terms that the code has
-
-pub seen_as : (a b : Answer) (d : Bool) (x y : Look) → Seen a d x → a ≡ b → x ≡ y → Seen b d y
-seen_as a b d x y h e f = subst (λ (a : Answer). Seen a d y) e (subst (Seen a d) f h)
-
-pub left_true : (d : Bool) (a : Answer) → LeftOver d a → LeftOver true a
-left_true d (ok end) h = refl
-left_true d (refused n p) h = tt
-left_true d (ok (is t)) h = by t.kind h
-  where
-    by : (k : Kind) → LeftKind d k → LeftKind true k
-    by lparen h = tt
-    by rparen h = refl
-    by at_sign h = tt
-    by symbol h = h
-    by (int z) h = tt
+    pub bind_turn : (i : ℕ) (k b' : List ℕ) → k ≡ name_of s (token symbol p m) → (j ≡ depth → ⊥)
+        → CostTold i (length k) (length k + head_len) (length b - size) × (b' ≡ take size b ++ fitted (record_of binding_kind k) (drop size b)) → length b' ≡ length b
+        → Turn s depth w a₀ b₀ a (next_token s (q + 1)) (j + 1) n (size + (m + head_len)) (v + (i + 3)) b'
+    bind_turn i k b' ek nd h l =
+        let its : List ℕ = name_of s (token symbol p m) in
+        let F : Answer → Result Many = read_items (read_tree s depth) (length s - n) in
+        let y : Result One = read_tree s (depth - j - 1) (next_token s (q + 1)) in
+        let begins : here ≡ and_then y (bound s its) =
+        ap (awaited s (ltb 0 j)) (ap (read_tree s (depth - j)) e
+        ∙ read_bind s (depth - j) (token symbol p m) (token at_sign q 1) refl sign refl (λ z. nd (omega (arith, g.deep)))) ∙ awaited_bound s (ltb 0 j) its y in
+        let left : Left n (g.o ++ record_of binding_kind its) (g.u + (length its + 3)) w F (and_then y (due s)) =
+        left_bound n g.o g.u w F s its y (subst (Left n g.o g.u w F) begins g.left) in
+        let t : ltb 0 (j + 1) ≡ true = lt-ltb 0 (j + 1) (omega arith) in
+        let dj : depth - (j + 1) ≡ depth - j - 1 = omega arith in
+        let short : length k ≡ m = ap length ek ∙ name_length s (token symbol p m) (past_top s (token symbol p m) its_lexes) in
+        let long : m + head_len ≡ length (record_of binding_kind k) = sym (length_record binding_kind k ∙ ap (λ (i : ℕ). i + head_len) short) in
+        let z : Spans s a (next_token s (q + 1)) (length (record_of binding_kind its)) =
+        subst⁻¹ (λ (x : Answer). Spans s x (next_token s (q + 1)) (length (record_of binding_kind its))) e (name_spans s (token symbol p m) (token at_sign q 1) its_lexes sign) in
+        let same_long : length (record_of binding_kind its) ≡ m + head_len = ap (λ (x : List ℕ). length (record_of binding_kind x)) (sym ek) ∙ sym long in
+        record {
+          going = record {
+            lexes = z.lexes;
+            on = omega (arith, z.on, g.on);
+            deep = omega (arith, g.deep, nd);
+            weighs = omega (arith, z.size, g.weighs, same_long);
+            u = g.u + (length k + 3);
+            costly = omega (arith, g.costly, short);
+            counts = more_told (i + 3) (length k + 3) (size + (m + head_len)) (omega arith) (omega (arith, h.0.0)) (λ f. ap (λ (i : ℕ). i + 3) (h.0.1 (omega (arith, short, g.same))));
+            o = g.o ++ record_of binding_kind k;
+            puts = subst⁻¹ (Puts (g.o ++ record_of binding_kind k) (size + (m + head_len)) b₀) h.1
+                (puts_behind g.o (record_of binding_kind k) b₀ b (fitted (record_of binding_kind k) (drop size b)) size (m + head_len) g.puts g.same
+                (long, λ f. fitted_over (record_of binding_kind k) (drop size b) f));
+            same = l ∙ g.same;
+            left = rw (t, dj, ek) left;
+          };
+          on = z.on;
+          top = z.top;
+          small = z.small;
+        }

@@ -15,10 +15,10 @@ use Rattle.table.specs.Trees.{Trees, records_of}
 use Rattle.reader.specs.Grammar.{Many, up_to, to_end, read_items, read_tree, whole, file_of}
 use Rattle.reader.specs.Reading.{answered, leaves, reading, read_into}
 use Rattle.lists.specs.Rooms.{Filled}
-use Rattle.reader.specs.PrivateWalk.{ItemsTold, ItemsRead}
-use Rattle.reader.specs.declared.parts.ManyRead.{ManyRead}
-use Rattle.reader.specs.declared.parts.Stop.{Stop}
-use Rattle.reader.specs.declared.parts.Stop.TheVariants as stop
+use Rattle.reader.specs.PrivateWalk.{StoppedBy, ItemsAre}
+use Rattle.reader.specs.declared.Many.{Many as ManyRead}
+use Rattle.reader.specs.declared.Stop.{Stop}
+use Rattle.reader.specs.declared.Stop.TheVariants as stop
 
 module _ (s : List ℕ) where
   abbrev items : Result Many
@@ -55,28 +55,33 @@ module _ (s : List ℕ) where
         f (omega arith) ∙ sym (ap (λ (x : Result Trees). leaves x t) e ∙ ap (λ (c : Bool). cond c (over (records_of xs) t) t) k),
       )
 
-  module _ (st : Stop) (m q k n v : ℕ) (b b' : List ℕ) (h : ItemsTold items st m q k n v b b') where
-    abbrev told : (st' : Stop) → st ≡ st' → ItemsTold items st' m q k n v b b'
-    told st' g = subst (λ (z : Stop). ItemsTold items z m q k n v b b') g h
+  pub refused_told : (t : List ℕ) (m q : ℕ) → items ≡ refused m q → Reads t t (refused m q)
+  refused_told t m q h = reads_refused t m q (file_by (refused m q) h)
 
-    pub refused_told : (t : List ℕ) → st ≡ stop.Refusal → Reads t t (refused m q)
-    refused_told t g = reads_refused t m q (file_by (refused m q) (told stop.Refusal g))
+  module _ (r : ManyRead) (b b' : List ℕ) (h : ItemsAre items r b b') where
+    abbrev stopped : (st : Stop) → r.stop ≡ st → StoppedBy items h.trees st
+    stopped st g = subst (StoppedBy items h.trees) g h.stopped
 
-    pub close_told : (t : List ℕ) → st ≡ stop.Close → Reads t t (refused no_list_open q)
-    close_told t g =
-        let w = told stop.Close g in
-        reads_refused t no_list_open q (file_by (ok (up_to w.0 w.1)) w.2 ∙ ap (refused no_list_open) (sym w.3))
+    pub close_told : (t : List ℕ) (q : ℕ) → r.stop ≡ stop.Close q → Reads t t (refused no_list_open q)
+    close_told t q g =
+        let w = stopped (stop.Close q) g in
+        reads_refused t no_list_open q (file_by (ok (up_to h.trees w.0)) w.1 ∙ ap (refused no_list_open) (sym w.2))
 
-    pub short_told : (t : List ℕ) → st ≡ stop.End → length t < n → Reads t t (refused table_room n)
-    short_told t g l = let w = told stop.End g in reads_short t w.0 n (file_by (ok (to_end w.0)) w.1) w.2 l
+    module _ (g : r.stop ≡ stop.End) where
+      pub short_told : (t : List ℕ) → length t < r.size → Reads t t (refused table_room r.size)
+      short_told t l = reads_short t h.trees r.size (file_by (ok (to_end h.trees)) (stopped stop.End g)) h.size l
 
-    -- told again, of the room lent
-    pub whole_told : (r : ManyRead) (t t' : List ℕ) → ItemsRead items r t t' → st ≡ stop.End → n ≤ length t → Reads t t' (ok n)
-    whole_told r t t' h₂ g l =
-        let w = told stop.End g in
-        reads_whole t t' w.0 n (file_by (ok (to_end w.0)) w.1) w.2 l (by r.stop h₂ w.0 w.1)
-      where
-        by : (st₂ : Stop) → ItemsTold items st₂ r.number r.place r.n r.size r.cost t t' → (xs : Trees) → items ≡ ok (to_end xs) → Filled (records_of xs) t t'
-        by stop.Close u xs e = let f = sym u.2 ∙ e in let z : ◌≡◌ {A = ℕ} 0 1 = cc in absurd (omega arith)
-        by stop.End u xs e = let f = sym u.1 ∙ e in let x : u.0 ≡ xs = cc in subst (λ (y : Trees). Filled (records_of y) t t') x u.4
-        by stop.Refusal u xs e = let f = sym u ∙ e in let z : ◌≡◌ {A = ℕ} 0 1 = cc in absurd (omega arith)
+      -- told again, of the room lent
+      pub whole_told : (r₂ : ManyRead) (t t' : List ℕ) → ItemsAre items r₂ t t' → r.size ≤ length t → Reads t t' (ok r.size)
+      whole_told r₂ t t' h₂ l = reads_whole t t' h.trees r.size (file_by (ok (to_end h.trees)) ended) h.size l (by r₂.stop h₂.stopped)
+        where
+          ended : items ≡ ok (to_end h.trees)
+          ended = stopped stop.End g
+
+          by : (st : Stop) → StoppedBy items h₂.trees st → Filled (records_of h.trees) t t'
+          by (stop.Close p) u = let f = sym u.1 ∙ ended in let z : ◌≡◌ {A = ℕ} 0 1 = cc in absurd (omega arith)
+          by stop.End u = let f = sym u ∙ ended in let x : h₂.trees ≡ h.trees = cc in subst (λ (y : Trees). Filled (records_of y) t t') x h₂.filled
+
+      -- what was not refused is not refused the second time
+      pub never_told : (m q : ℕ) → items ≡ refused m q → ⊥
+      never_told m q e = let f = sym (stopped stop.End g) ∙ e in let z : ◌≡◌ {A = ℕ} 0 1 = cc in omega arith

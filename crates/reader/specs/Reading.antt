@@ -1,12 +1,11 @@
 -- The answer of `read`, and the lent room after it (document 01, 'Trees and their table', 'Numbers given instead of an answer').
-use Rattle.std.specs.Prelude.{ℕ, cond, List, leb, length}
+use Rattle.std.specs.Prelude.{ℕ, cond, List, leb, length, Result as CodeResult, Ok, Err}
 use Rattle.refusals.specs.Numbers.{table_room}
 use Rattle.refusals.specs.Result.{Result, ok, refused, refused_by, and_then}
+use Rattle.refusals.specs.declared.Refusal.{Refusal}
 use Rattle.lists.specs.Over.{fitted}
 use Rattle.table.specs.Trees.{Trees, records_of}
 use Rattle.reader.specs.Grammar.{file_of}
-use Rattle.reader.specs.declared.Readout.{Readout}
-use Rattle.reader.specs.declared.Readout.TheVariants as code
 
 -- the table's length; 14 last, with the bytes needed
 abbrev pub answered : ℕ → Trees → Result ℕ
@@ -24,7 +23,7 @@ reading s k = and_then (file_of s) (answered k)
 unfoldable pub read_into : List ℕ → List ℕ → List ℕ
 read_into s b = leaves (file_of s) b
 
--- document 01's number and values for each case of the answer's enum
-abbrev pub read_of : Readout → Result ℕ
-read_of (code.Table n) = ok n
-read_of (code.Refused r) = refused_by r
+-- document 01's number and values for each case of the code's answer
+abbrev pub read_of : CodeResult ℕ Refusal → Result ℕ
+read_of (Ok n) = ok n
+read_of (Err r) = refused_by r

@@ -1,12 +1,13 @@
 -- Costs are bounded by the records that they are of (THEOREM cost_fits), and a wrong one is told where its tree stands, the first of several. Assumes nothing.
-use mathlib.Core.Path.{◌≡◌, refl, ap, sym, ◌∙◌}
+use Rattle.std.specs.Prelude.{Option, Some, None}
+use mathlib.Core.Path.{◌≡◌, refl, ap, ◌∙◌}
 use mathlib.Core.Bool.{Bool, true, false, cond}
 use mathlib.Core.List.{List, ◌++◌}
 use Prim.Native.Nat.{ℕ, ◌+◌, ◌*◌, ◌≤◌, ◌<◌}
 use native.Mathlib.Omega.{arith}
 use lib.Dec.{eqb}
 use lib.ListN.{length, length-append}
-use borrow.Author.Tests.{eq-eqb, ne_eqb, eqb-true}
+use borrow.Author.Tests.{eq-eqb, eqb-true}
 use Rattle.lists.proofs.Choice.{pick}
 use Rattle.refusals.specs.Numbers.{wrong_cost}
 use Rattle.refusals.specs.Result.{Result, ok, refused, and_then}
@@ -125,38 +126,28 @@ pub right_list : (t : List ℕ) (xs : Trees) (p : ℕ) → stored_cost t p ≡ c
 unfolding costed
 right_list t xs p e k = rw (eq-eqb (stored_cost t p) (cost (list xs)) e) k
 
--- ---- the first of several, where e stands for none
+-- ---- the first of several
 
-pub first_none : (e a : ℕ) → first_of e a e ≡ a
-first_none e a = by (eqb a e) refl
-  where
-    by : (b : Bool) → eqb a e ≡ b → cond b e a ≡ a
-    by true f = sym (eqb-true a e f)
-    by false f = refl
+pub first_none : (a : Option ℕ) → first_of a None ≡ a
+first_none None = refl
+first_none (Some k) = refl
 
-pub none_first : (e a : ℕ) → first_of e e a ≡ a
-none_first e a = rw (eq-eqb e e refl) refl
+pub first_first : (a b c : Option ℕ) → first_of (first_of a b) c ≡ first_of a (first_of b c)
+first_first None b c = refl
+first_first (Some k) b c = refl
 
-pub first_first : (e a b c : ℕ) → first_of e (first_of e a b) c ≡ first_of e a (first_of e b c)
-first_first e a b c = by (eqb a e) refl
-  where
-    by : (x : Bool) → eqb a e ≡ x → first_of e (cond x b a) c ≡ cond x (first_of e b c) a
-    by true f = refl
-    by false f = rw f refl
-
-pub wrong_first : (e p q : ℕ) (y z : Result (Unit {0})) → q ≤ e → Within p q y → wrong_in e (and_then y (λ _. z)) ≡ first_of e (wrong_in e y) (wrong_in e z)
-wrong_first e p q (ok u) z l w = sym (none_first e (wrong_in e z))
-wrong_first e p q (refused n a) z l w = rw (ne_eqb a e (λ u. omega (arith, w.2))) refl
+pub wrong_first : (y z : Result (Unit {0})) → wrong_in (and_then y (λ _. z)) ≡ first_of (wrong_in y) (wrong_in z)
+wrong_first (ok u) z = refl
+wrong_first (refused n a) z = refl
 
 -- a list's own comes before those inside it
-pub wrong_list : (t : List ℕ) (xs : Trees) (p : ℕ) → p < length t
-    → wrong_in (length t) (costed t (list xs) p) ≡ first_of (length t) (own_wrong t p (cost (list xs))) (wrong_in (length t) (costed_all t xs (p + list_len)))
+pub wrong_list : (t : List ℕ) (xs : Trees) (p : ℕ) → wrong_in (costed t (list xs) p) ≡ first_of (own_wrong t p (cost (list xs))) (wrong_in (costed_all t xs (p + list_len)))
 unfolding costed
-wrong_list t xs p l = by (eqb (stored_cost t p) (cost (list xs)))
+wrong_list t xs p = by (eqb (stored_cost t p) (cost (list xs)))
   where
     rest : Result (Unit {0})
     rest = costed_all t xs (p + list_len)
 
-    by : (b : Bool) → wrong_in (length t) (cond b rest (refused wrong_cost p)) ≡ first_of (length t) (cond b (length t) p) (wrong_in (length t) rest)
-    by true = sym (none_first (length t) (wrong_in (length t) rest))
-    by false = rw (ne_eqb p (length t) (λ u. omega arith)) refl
+    by : (b : Bool) → wrong_in (cond b rest (refused wrong_cost p)) ≡ first_of (cond b None (Some p)) (wrong_in rest)
+    by true = refl
+    by false = refl

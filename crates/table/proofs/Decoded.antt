@@ -1,4 +1,5 @@
 -- What is found in a table is a good tree, and its records stand there if the costs that its lists store are right. Assumes that the table's elements are bytes.
+use Rattle.std.specs.Prelude.{Result as CodeResult, Ok, Err}
 use mathlib.Core.Path.{◌≡◌, refl, ap, sym, subst, ◌∙◌}
 use mathlib.Core.List.{List, ◌++◌}
 use Prim.Native.Nat.{ℕ, zero, suc, ◌+◌, ◌-◌, ◌^◌, ◌≤◌, ◌<◌}
@@ -14,8 +15,9 @@ use Rattle.records.proofs.Heads.{length_record, payload_size, record_stands, wit
 use Rattle.table.specs.Kinds.{symbol_kind, integer_kind, binding_kind, list_kind, integer_len, list_len}
 use Rattle.table.specs.Trees.{Tree, Trees, binding, list, more, count, Good, Goods, cost, records, records_of}
 use Rattle.table.specs.Costs.{stored_cost, costed, costed_all}
-use Rattle.table.specs.Decoding.{Found, found, and_then, items_at, Step, of_step, tree_at}
-use Rattle.table.specs.declared.Step.TheVariants as step
+use Rattle.refusals.specs.declared.Fault.{Fault}
+use Rattle.table.specs.Records.{Record, Symbol, Integer, Binding, ListOf}
+use Rattle.table.specs.Decoding.{Found, found, and_then, items_at, of_step, tree_at}
 use Rattle.table.proofs.Integers.{range_bits}
 use Rattle.lists.proofs.Stands.{Stands, stands_join, stands_none, stands_part, stands_take, part_size}
 use Rattle.table.proofs.Reading.{StepIn, by_steps}
@@ -64,14 +66,14 @@ module _ (t : List ℕ) (p len : ℕ) (hb : Bytes t) (e : len ≡ len_at t p) (f
   named_small = rw (payload_size t p len (omega arith) few) (omega (arith, part_lt t p 4 hb (omega arith)))
 
 step_hold : (t : List ℕ) → Bytes t → (d p : ℕ) → (0 < d → (q : ℕ) → q ≤ length t → Holds t (d - 1) q (tree_at t (d - 1) q))
-    → (s : Step) → StepIn t d p s → p ≤ length t → Holds t d p (of_step t p (tree_at t (d - 1)) s)
+    → (s : CodeResult Record Fault) → StepIn t d p s → p ≤ length t → Holds t d p (of_step t p (tree_at t (d - 1)) s)
 unfolding records Good costed stored_cost
-step_hold t hb d p hf (step.Fault n) hx hp = tt
-step_hold t hb d p hf (step.Symbol len) hx hp = (
+step_hold t hb d p hf (Err n) hx hp = tt
+step_hold t hb d p hf (Ok (Symbol len)) hx hp = (
   (λ _. record_stands t p symbol_kind len hb (omega arith) hx.0 (sym hx.3) hx.4),
   (hx.2, named_small t p len hb hx.3 hx.0 hx.1 hp),
 )
-step_hold t hb d p hf step.Integer hx hp =
+step_hold t hb d p hf (Ok Integer) hx hp =
     let n : ℕ = number_at 16 t (p + head_len) in
     let bits : n < 2 ^ 128 = part_lt t (p + head_len) 16 hb (omega arith) in
     let same : payload t p integer_len ≡ wide_bytes (to_z w128 n) =
@@ -79,7 +81,7 @@ step_hold t hb d p hf step.Integer hx hp =
       (λ _. subst (λ (bs : List ℕ). Stands t p (record_of integer_kind bs)) same (record_stands t p integer_kind integer_len hb (omega arith) (omega arith) hx.1 hx.2)),
       range_bits n bits,
     )
-step_hold t hb d p hf (step.Binding len) hx hp = sub (tree_at t (d - 1) (p + len)) (hf hx.2 (p + len) (omega arith))
+step_hold t hb d p hf (Ok (Binding len)) hx hp = sub (tree_at t (d - 1) (p + len)) (hf hx.2 (p + len) (omega arith))
   where
     size : length (record_of binding_kind (payload t p len)) ≡ len
     size = named_size t p len hb hx.4 hx.0 hx.1 hp binding_kind
@@ -95,7 +97,7 @@ step_hold t hb d p hf (step.Binding len) hx hp = sub (tree_at t (d - 1) (p + len
           (subst (λ (k : ℕ). Stands t (p + k) (records x)) (sym size) (h.0 (subst (λ (k : ℕ). costed t x (p + k) ≡ ok tt) whole e)))),
       (hx.2, hx.3, named_small t p len hb hx.4 hx.0 hx.1 hp, h.1),
     )
-step_hold t hb d p hf (step.List n) hx hp =
+step_hold t hb d p hf (Ok (ListOf n)) hx hp =
     sub (items_at (tree_at t (d - 1)) n (p + list_len)) (items_hold t (d - 1) (hf hx.1) n (p + list_len) (omega arith))
   where
     -- the count, as it was read, and the cost, if it is what is stored

@@ -1,4 +1,5 @@
 -- What was found is found again where more may be open: why `table::past` serves at any depth. Assumes nothing.
+use Rattle.std.specs.Prelude.{Result as CodeResult, Ok, Err}
 use mathlib.Core.Path.{◌≡◌, refl, ap, subst}
 use mathlib.Core.Bool.{true, false}
 use mathlib.Core.List.{List}
@@ -6,12 +7,12 @@ use Prim.Native.Nat.{ℕ, zero, suc, ◌+◌, ◌-◌, ◌≤◌}
 use native.Mathlib.Omega.{arith}
 use Rattle.refusals.specs.Numbers.{depth_limit, too_deep}
 use Rattle.refusals.specs.Result.{Result, ok, refused}
+use Rattle.refusals.specs.declared.Fault.{Fault}
 use Rattle.records.specs.Records.{payload}
 use Rattle.table.specs.Kinds.{list_len}
 use Rattle.table.specs.Trees.{Tree, Trees, binding, list, more}
-use Rattle.table.specs.Records.{Record, Symbol, Integer, Binding, ListOf, Bad, record_at}
-use Rattle.table.specs.Decoding.{Found, found, and_then, items_at, Step, step_of, step_at, of_step, tree_at}
-use Rattle.table.specs.declared.Step.TheVariants as step
+use Rattle.table.specs.Records.{Record, Symbol, Integer, Binding, ListOf, record_at}
+use Rattle.table.specs.Decoding.{Found, found, and_then, items_at, step_of, step_at, of_step, tree_at}
 use Rattle.table.specs.Past.{past_of}
 
 -- g finds all that f finds
@@ -36,17 +37,17 @@ module _ (f g : ℕ → Result (Found Tree)) (h : More f g) where
       first (ok (found x r)) u k ih = rest x r (items_at f n r) refl (h p x r u) k ih
       first (refused m a) u k ih = let z : ◌≡◌ {A = ℕ} 0 1 = cc in absurd (omega arith)
 
-  step_again : (t : List ℕ) (at : ℕ) (s : Step) (x : Tree) (q : ℕ) → of_step t at f s ≡ ok (found x q) → of_step t at g s ≡ ok (found x q)
-  step_again t at (step.Fault n) x q e = e
-  step_again t at (step.Symbol len) x q e = e
-  step_again t at step.Integer x q e = e
-  step_again t at (step.Binding len) x q e = by (f (at + len)) refl e
+  step_again : (t : List ℕ) (at : ℕ) (s : CodeResult Record Fault) (x : Tree) (q : ℕ) → of_step t at f s ≡ ok (found x q) → of_step t at g s ≡ ok (found x q)
+  step_again t at (Err n) x q e = e
+  step_again t at (Ok (Symbol len)) x q e = e
+  step_again t at (Ok Integer) x q e = e
+  step_again t at (Ok (Binding len)) x q e = by (f (at + len)) refl e
     where
       by : (y : Result (Found Tree)) → f (at + len) ≡ y → and_then y (λ z r. ok (found (binding (payload t at len) z) r)) ≡ ok (found x q)
           → and_then (g (at + len)) (λ z r. ok (found (binding (payload t at len) z) r)) ≡ ok (found x q)
       by (ok (found z r)) u k = rw (h (at + len) z r u) k
       by (refused m a) u k = let z : ◌≡◌ {A = ℕ} 0 1 = cc in absurd (omega arith)
-  step_again t at (step.List n) x q e = by (items_at f n (at + list_len)) refl e
+  step_again t at (Ok (ListOf n)) x q e = by (items_at f n (at + list_len)) refl e
     where
       by : (y : Result (Found Trees)) → items_at f n (at + list_len) ≡ y → and_then y (λ xs r. ok (found (list xs) r)) ≡ ok (found x q)
           → and_then (items_at g n (at + list_len)) (λ xs r. ok (found (list xs) r)) ≡ ok (found x q)
@@ -59,12 +60,12 @@ opened : (t : List ℕ) (at : ℕ) (f : ℕ → Result (Found Tree)) (x : Tree) 
 unfolding step_at
 opened t at f x q e = by (record_at t at) e
   where
-    by : (y : Record) → of_step t at f (step_of t at false y) ≡ ok (found x q) → step_of t at true y ≡ step_of t at false y
-    by (Bad n) k = refl
-    by (Symbol len) k = refl
-    by Integer k = refl
-    by (Binding len) k = let z : ◌≡◌ {A = ℕ} 0 1 = cc in absurd (omega arith)
-    by (ListOf n) k = let z : ◌≡◌ {A = ℕ} 0 1 = cc in absurd (omega arith)
+    by : (y : CodeResult Record Fault) → of_step t at f (step_of t at false y) ≡ ok (found x q) → step_of t at true y ≡ step_of t at false y
+    by (Err n) k = refl
+    by (Ok (Symbol len)) k = refl
+    by (Ok Integer) k = refl
+    by (Ok (Binding len)) k = let z : ◌≡◌ {A = ℕ} 0 1 = cc in absurd (omega arith)
+    by (Ok (ListOf n)) k = let z : ◌≡◌ {A = ℕ} 0 1 = cc in absurd (omega arith)
 
 one_deeper : (t : List ℕ) (d : ℕ) → More (tree_at t d) (tree_at t (suc d))
 unfolding tree_at

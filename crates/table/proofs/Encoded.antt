@@ -1,4 +1,5 @@
 -- The records of good trees, where they stand, are found as those trees, and the costs in them are right. Assumes nothing.
+use Rattle.std.specs.Prelude.{Ok}
 use mathlib.Core.Path.{◌≡◌, refl, ap, subst, ◌∙◌}
 use mathlib.Core.List.{List, ◌++◌}
 use Prim.Native.Nat.{ℕ, suc, ◌+◌, ◌-◌, ◌≤◌}
@@ -45,20 +46,20 @@ mutual
       → tree_at t d p ≡ ok (found x (p + length (records x)))
   tree_is (symbol n) t d p g hp s =
       let h = stood t p symbol_kind n hp (lit< tt) g.1 s in
-      tree_of_lem t d p (Symbol (length n + head_len)) (symbol_read t p n h)
+      tree_of_lem t d p (Ok (Symbol (length n + head_len))) (symbol_read t p n h)
       ∙ rw (stood_payload t p symbol_kind n h, g.0, stood_payload t p symbol_kind n h, length_record symbol_kind n) refl
   tree_is (integer z) t d p g hp s =
       let h = integer_stood t p z hp s in
       let n : number_at 16 t (p + head_len) ≡ of_z w128 z =
       bits_read z t p h ∙ number_le 16 (of_z w128 z) (of_z_fits w128 z (fits_range z g)).fits in
-      tree_of_lem t d p Integer (integer_read t p (wide_bytes z) (wide_length z) h)
+      tree_of_lem t d p (Ok Integer) (integer_read t p (wide_bytes z) (wide_length z) h)
       ∙ rw (n, to_z-of_z w128 z (fits_range z g), length_record integer_kind (wide_bytes z), wide_length z) refl
   tree_is (binding n x) t d p g hp s =
       let a = stands_left t p (record_of binding_kind n) (records x) s in
       let h = stood t p binding_kind n hp (lit< tt) g.2 a in
       let b : Stands t (p + (length n + head_len)) (records x) =
       subst (λ (k : ℕ). Stands t (p + k) (records x)) (length_record binding_kind n) (stands_right t p (record_of binding_kind n) (records x) s) in
-      tree_of_lem t d p (Binding (length n + head_len)) (binding_read t p n h)
+      tree_of_lem t d p (Ok (Binding (length n + head_len))) (binding_read t p n h)
       ∙ rw (lt-ltb 0 d g.0, stood_payload t p binding_kind n h, g.1, stood_payload t p binding_kind n h, tree_is x t (d - 1) (p + (length n + head_len)) g.3 (omega (arith, h.room)) b)
       (ap (λ (z : ℕ). ok (found (binding n x) z)) (past_record binding_kind p n (records x)))
   tree_is (list xs) t d p g hp s =
@@ -67,7 +68,7 @@ mutual
       let b : Stands t (p + list_len) (records_of xs) =
       subst (λ (k : ℕ). Stands t (p + k) (records_of xs)) (list_size (count xs) (cost (list xs))) (stands_right t p (record_of list_kind c) (records_of xs) s) in
       let l = stands_length t p (record_of list_kind c) hp (stands_left t p (record_of list_kind c) (records_of xs) s) in
-      tree_of_lem t d p (ListOf (count xs)) (list_read t p (count xs) (cost (list xs)) g.1 h)
+      tree_of_lem t d p (Ok (ListOf (count xs))) (list_read t p (count xs) (cost (list xs)) g.1 h)
       ∙ rw (lt-ltb 0 d g.0, trees_are xs t (d - 1) (p + list_len) g.2 (omega (arith, l, list_size (count xs) (cost (list xs)))) b)
       (ap (λ (z : ℕ). ok (found (list xs) z)) (omega (arith, list_records xs)))
 

@@ -1,4 +1,5 @@
 -- How the first record of a tree is read where it stands. Assumes nothing.
+use Rattle.std.specs.Prelude.{Ok}
 use mathlib.Core.Path.{◌≡◌, refl, ap, sym, subst, ◌∙◌}
 use mathlib.Core.List.{List, ◌++◌}
 use Prim.Native.Nat.{ℕ, ◌+◌, ◌-◌, ◌^◌, ◌≤◌, ◌<◌}
@@ -8,11 +9,11 @@ use lib.Dec.{lit<}
 use lib.IntN.{ℤ}
 use mir.Syntax.{w128}
 use mir.Val.{to_z}
-use borrow.Author.Tests.{le-leb, lt-leb}
+use borrow.Author.Tests.{le-leb}
 use Rattle.lists.proofs.Stands.{Stands, stands_left, stands_right, stands_take}
-use Rattle.wide.specs.Bytes.{le, number, number_at, number_in, wide_bytes, integer_at}
+use Rattle.wide.specs.Bytes.{le, number, number_at, wide_bytes, integer_at}
 use Rattle.wide.proofs.Numbers.{le_length, number_le, wide_length, wide_back}
-use Rattle.records.specs.Records.{head_len, record_of, head_at}
+use Rattle.records.specs.Records.{head, head_len, record_of}
 use Rattle.records.proofs.Heads.{Stood, stood, stood_head, length_record}
 use Rattle.table.specs.Kinds.{symbol_kind, integer_kind, binding_kind, list_kind}
 use Rattle.table.specs.Trees.{Tree, Trees, symbol, integer, binding, list, none, more, count, InRange, Good, Goods, cost, records, records_of}
@@ -22,18 +23,18 @@ use Rattle.table.proofs.Integers.{fits_range}
 use Rattle.table.proofs.Reading.{record_is}
 
 record_by : (t : List ℕ) (p kind : ℕ) (bs : List ℕ) → Stood t p kind bs → record_at t p ≡ kind_of kind (length bs + head_len) (number_at 4 t (p + head_len))
-record_by t p kind bs h = sym (record_is t p (head_at t p) kind (length bs + head_len) _ refl (stood_head t p kind bs h) refl)
+record_by t p kind bs h = sym (record_is t p (head kind (length bs + head_len)) _ (sym (stood_head t p kind bs h)) refl)
 
-pub symbol_read : (t : List ℕ) (p : ℕ) (n : List ℕ) → Stood t p symbol_kind n → Symbol (length n + head_len) ≡ record_at t p
+pub symbol_read : (t : List ℕ) (p : ℕ) (n : List ℕ) → Stood t p symbol_kind n → Ok (Symbol (length n + head_len)) ≡ record_at t p
 symbol_read t p n h = sym (record_by t p symbol_kind n h)
 
-pub binding_read : (t : List ℕ) (p : ℕ) (n : List ℕ) → Stood t p binding_kind n → Binding (length n + head_len) ≡ record_at t p
+pub binding_read : (t : List ℕ) (p : ℕ) (n : List ℕ) → Stood t p binding_kind n → Ok (Binding (length n + head_len)) ≡ record_at t p
 binding_read t p n h = sym (record_by t p binding_kind n h)
 
-pub integer_read : (t : List ℕ) (p : ℕ) (bs : List ℕ) → length bs ≡ 16 → Stood t p integer_kind bs → Integer ≡ record_at t p
+pub integer_read : (t : List ℕ) (p : ℕ) (bs : List ℕ) → length bs ≡ 16 → Stood t p integer_kind bs → Ok Integer ≡ record_at t p
 integer_read t p bs e h = sym (record_by t p integer_kind bs h ∙ rw e refl)
 
-pub list_read : (t : List ℕ) (p n k : ℕ) → n < 2 ^ 32 → Stood t p list_kind (le 4 n ++ le 4 k) → ListOf n ≡ record_at t p
+pub list_read : (t : List ℕ) (p n k : ℕ) → n < 2 ^ 32 → Stood t p list_kind (le 4 n ++ le 4 k) → Ok (ListOf n) ≡ record_at t p
 list_read t p n k lt h =
     let z : length (le 4 n ++ le 4 k) ≡ 8 = simp (length-append, le_length) refl in
     let v : number_at 4 t (p + head_len) ≡ n =
@@ -51,15 +52,6 @@ stored_read t p n k lt h =
     let v : number_at 4 t (p + (head_len + 4)) ≡ k =
     ap number (stands_take t (p + (head_len + 4)) (le 4 k) (subst (λ (j : ℕ). Stands t j (le 4 k)) e s) 4 (le_length 4 k)) ∙ number_le 4 k lt in
     rw (le-leb (p + (head_len + 4) + 4) (length t) (omega (arith, h.room))) v
-
--- how the code reads it, of any table
-pub stored_at : (t : List ℕ) (at : ℕ) → number_in 4 t (at + head_len + 4) ≡ stored_cost t at
-unfolding stored_cost
-stored_at t at = ap (number_in 4 t) (omega arith)
-
-pub stored_past : (t : List ℕ) (at : ℕ) → length t ≤ at → 0 ≡ stored_cost t at
-unfolding stored_cost
-stored_past t at h = rw (lt-leb (at + (head_len + 4) + 4) (length t) (omega arith)) refl
 
 -- the two kinds whose payload has a fixed length
 pub integer_stood : (t : List ℕ) (p : ℕ) (z : ℤ) → p ≤ length t → Stands t p (record_of integer_kind (wide_bytes z)) → Stood t p integer_kind (wide_bytes z)
@@ -100,7 +92,7 @@ shape (integer z) = Integer
 shape (binding n x) = Binding (length n + head_len)
 shape (list xs) = ListOf (count xs)
 
-pub reads : (x : Tree) (t : List ℕ) (p : ℕ) → Sized x → p ≤ length t → Stands t p (records x) → shape x ≡ record_at t p
+pub reads : (x : Tree) (t : List ℕ) (p : ℕ) → Sized x → p ≤ length t → Stands t p (records x) → Ok (shape x) ≡ record_at t p
 unfolding records Sized
 reads (symbol n) t p g hp s = symbol_read t p n (stood t p symbol_kind n hp (lit< tt) g s)
 reads (integer z) t p g hp s = integer_read t p (wide_bytes z) (wide_length z) (integer_stood t p z hp s)

@@ -2,11 +2,11 @@
 use mathlib.Core.Path.{◌≡◌, refl}
 use mathlib.Core.Bool.{true, false}
 use mathlib.Core.List.{List, [], ◌∷◌}
-use Prim.Native.Nat.{ℕ, ◌+◌, ◌-◌, ◌≤◌, ◌<◌}
+use Prim.Native.Nat.{ℕ, ◌+◌, ◌-◌, ◌<◌}
 use native.Mathlib.Omega.{arith}
-use lib.ListN.{length, take, drop, get_or, drop_of_length-le}
+use lib.ListN.{length, take, drop, get_or}
+use Rattle.std.specs.List.{list_all}
 use Rattle.classes.specs.Classes.{class_of, symbol_first, symbol_other}
-use Rattle.lists.proofs.Places.{from}
 use Rattle.records.specs.Records.{head_len, payload}
 use Rattle.table.specs.Trees.{runs_on, is_symbol}
 
@@ -24,20 +24,12 @@ unfolding is_symbol
 not_first [] e = refl
 not_first (b ∷ s) e = rw e refl
 
-pub begins : (s : List ℕ) → (length s ≡ 0 → ⊥) → symbol_first (class_of (get_or s 0 0)) ≡ true → runs_on (drop 1 s) ≡ is_symbol s
+pub begins : (s : List ℕ) → 0 < length s → symbol_first (class_of (get_or s 0 0)) ≡ true → runs_on (drop 1 s) ≡ is_symbol s
 unfolding is_symbol
-begins [] h e = absurd (h refl)
+begins [] h e = absurd (omega arith)
 begins (b ∷ s) h e = rw e refl
 
-module _ (s : List ℕ) (i : ℕ) where
-  pub goes : i < length s → symbol_other (class_of (get_or s i 0)) ≡ true → runs_on (drop (i + 1) s) ≡ runs_on (drop i s)
-  unfolding runs_on
-  goes h e = rw (from s i h, e) refl
-
-  pub stopped : i < length s → symbol_other (class_of (get_or s i 0)) ≡ false → false ≡ runs_on (drop i s)
-  unfolding runs_on
-  stopped h e = rw (from s i h, e) refl
-
-  pub over : length s ≤ i → true ≡ runs_on (drop i s)
-  unfolding runs_on
-  over h = rw (drop_of_length-le s {i = i} h) refl
+pub runs_all : (s : List ℕ) → list_all (λ b. symbol_other (class_of b)) s ≡ runs_on s
+unfolding runs_on
+runs_all [] = refl
+runs_all (b ∷ s) = rw (runs_all s) refl

@@ -1,13 +1,13 @@
 -- Where a tree that is found ends: past its records, and within the table. Assumes nothing.
+use Rattle.std.specs.Prelude.{Result as CodeResult, Ok, Err}
 use mathlib.Core.Path.{◌≡◌, subst}
-use mathlib.Core.Bool.{Bool, true, false, cond}
 use mathlib.Core.List.{List}
 use Prim.Native.Nat.{ℕ, zero, suc, ◌+◌, ◌-◌, ◌≤◌, ◌<◌}
 use native.Mathlib.Omega.{arith}
 use lib.ListN.{length, length-append}
 use lib.Dec.{ltb}
 use Rattle.lists.proofs.Choice.{pick}
-use Rattle.refusals.specs.Numbers.{table_limit, depth_limit, too_long}
+use Rattle.refusals.specs.Numbers.{depth_limit}
 use Rattle.refusals.specs.Result.{Result, ok, refused}
 use Rattle.wide.specs.Bytes.{wide_bytes, integer_at}
 use Rattle.wide.proofs.Numbers.{wide_length}
@@ -15,8 +15,9 @@ use Rattle.records.specs.Records.{head_len, payload}
 use Rattle.records.proofs.Heads.{length_record, payload_size}
 use Rattle.table.specs.Kinds.{symbol_kind, integer_kind, binding_kind, list_len}
 use Rattle.table.specs.Trees.{Tree, Trees, binding, list, more, records, records_of}
-use Rattle.table.specs.Decoding.{Found, found, and_then, items_at, Step, of_step, tree_at, trees_at, shape_of}
-use Rattle.table.specs.declared.Step.TheVariants as step
+use Rattle.refusals.specs.declared.Fault.{Fault}
+use Rattle.table.specs.Records.{Record, Symbol, Integer, Binding, ListOf}
+use Rattle.table.specs.Decoding.{Found, found, and_then, items_at, of_step, tree_at, trees_at}
 use Rattle.table.proofs.Reading.{StepIn, by_steps}
 use Rattle.table.proofs.Costs.{named_record, list_records}
 
@@ -46,20 +47,20 @@ items_span t d hf (suc n) p hp = first (tree_at t d p) (hf p hp) (items_span t d
     first (refused k a) h ih = tt
 
 step_span : (t : List ℕ) (d p : ℕ) → (0 < d → (q : ℕ) → q ≤ length t → Spans t q (tree_at t (d - 1) q))
-    → (s : Step) → StepIn t d p s → p ≤ length t → Spans t p (of_step t p (tree_at t (d - 1)) s)
+    → (s : CodeResult Record Fault) → StepIn t d p s → p ≤ length t → Spans t p (of_step t p (tree_at t (d - 1)) s)
 unfolding records
-step_span t d p hf (step.Fault n) hx hp = tt
-step_span t d p hf (step.Symbol len) hx hp =
+step_span t d p hf (Err n) hx hp = tt
+step_span t d p hf (Ok (Symbol len)) hx hp =
     (omega (arith, length_record symbol_kind (payload t p len), payload_size t p len (omega (arith, hx.0, hx.1)) hx.0), omega (arith, hx.0, hx.1))
-step_span t d p hf step.Integer hx hp =
+step_span t d p hf (Ok Integer) hx hp =
     let z = integer_at t (p + head_len) in (omega (arith, length_record integer_kind (wide_bytes z), wide_length z), omega (arith, hx.0))
-step_span t d p hf (step.Binding len) hx hp = sub (tree_at t (d - 1) (p + len)) (hf hx.2 (p + len) (omega (arith, hx.0, hx.1)))
+step_span t d p hf (Ok (Binding len)) hx hp = sub (tree_at t (d - 1) (p + len)) (hf hx.2 (p + len) (omega (arith, hx.0, hx.1)))
   where
     sub : (y : Result (Found Tree)) → Spans t (p + len) y → Spans t p (and_then y (λ x q. ok (found (binding (payload t p len) x) q)))
     sub (refused n a) h = tt
     sub (ok (found x q)) h =
         (omega (arith, h.0, named_record binding_kind (payload t p len) (records x), payload_size t p len (omega (arith, hx.0, hx.1)) hx.0), h.1)
-step_span t d p hf (step.List n) hx hp =
+step_span t d p hf (Ok (ListOf n)) hx hp =
     sub (items_at (tree_at t (d - 1)) n (p + list_len)) (items_span t (d - 1) (hf hx.1) n (p + list_len) (omega (arith, hx.0)))
   where
     sub : (y : Result (Found Trees)) → SpanAll t (p + list_len) y → Spans t p (and_then y (λ xs q. ok (found (list xs) q)))
@@ -84,11 +85,3 @@ trees_span t (suc k) at h =
         → SpanAll t at (and_then y (λ x q. and_then (trees_at t k q) (λ xs r. ok (found (more x xs) r))))
     first (ok (found x q)) s ih = span_more t at q x s.0 (trees_at t k q) (ih q s.1)
     first (refused n a) s ih = tt
-
-pub shape_span : (t : List ℕ) (xs : Trees) (q : ℕ) → shape_of t ≡ ok (found xs q) → length (records_of xs) ≤ length t
-unfolding shape_of
-shape_span t xs q e = by (ltb table_limit (length t)) e
-  where
-    by : (b : Bool) → cond b (refused too_long table_limit) (trees_at t (length t + 1) 0) ≡ ok (found xs q) → length (records_of xs) ≤ length t
-    by true k = let z : ◌≡◌ {A = ℕ} 0 1 = cc in absurd (omega arith)
-    by false k = let h = subst (SpanAll t 0) k (trees_span t (length t + 1) 0 (omega arith)) in omega (arith, h.0, h.1)

@@ -1,5 +1,6 @@
 -- THE WALK, STATED ONCE: a tree is what its judged record comes to; the items of a list, one by one; trees up to the table's end.
 -- A new walk cites `step_tree` at its records, `Gone` in its loop, and speaks of the tree that is found. Assumes nothing.
+use Rattle.std.specs.Prelude.{Result as CodeResult, Ok, Err}
 use mathlib.Core.Path.{◌≡◌, refl, ap, sym, subst, ◌∙◌}
 use mathlib.Core.Bool.{Bool, true, false, cond}
 use mathlib.Core.List.{List}
@@ -8,38 +9,37 @@ use native.Mathlib.Omega.{arith}
 use lib.ListN.{length}
 use lib.Dec.{ltb}
 use borrow.Author.Tests.{lt-ltb, le-ltb}
-use Rattle.refusals.specs.Numbers.{table_limit, depth_limit, too_long}
+use Rattle.refusals.specs.declared.Fault.{Fault}
+use Rattle.refusals.specs.Numbers.{table_limit, depth_limit, too_long, number_of}
 use Rattle.refusals.specs.Result.{Result, ok, refused}
 use Rattle.records.specs.Records.{head_len, payload}
+use Rattle.table.specs.Kinds.{integer_len, list_len}
 use Rattle.table.specs.Trees.{Tree, Trees, symbol, none, more, count, is_symbol}
-use Rattle.table.specs.Records.{Record, Symbol, Integer, Binding, ListOf, Bad, record_at}
-use Rattle.table.specs.Decoding.{Found, found, and_then, items_at, Step, step_of, step_at, of_step, tree_at, trees_at, shape_of, table_of}
+use Rattle.table.specs.Records.{Record, Symbol, Integer, Binding, ListOf, record_at}
+use Rattle.table.specs.Decoding.{Found, found, and_then, items_at, step_of, step_at, of_step, tree_at, trees_at, shape_of, table_of}
 use Rattle.table.specs.Past.{past_name, past_symbol}
 use Rattle.table.proofs.Reading.{symbol_in, Ends, StepIn, judged_in, tree_step, tree_of_lem, tree_end}
 
--- ---- a record that was judged as r
+-- ---- a record x that was judged good, and is y; and one that has a fault
 
-pub step_tree : (t : List ℕ) (d at : ℕ) (s r : Step) → s ≡ step_at t at (ltb 0 d) → s ≡ r → tree_at t d at ≡ of_step t at (tree_at t (d - 1)) r
-step_tree t d at s r e e' = tree_step t d at ∙ ap (of_step t at (tree_at t (d - 1))) (sym e ∙ e')
+pub step_tree : (t : List ℕ) (d at : ℕ) (x y : Record) → Ok x ≡ step_at t at (ltb 0 d) → x ≡ y → tree_at t d at ≡ of_step t at (tree_at t (d - 1)) (Ok y)
+step_tree t d at x y e e' = tree_step t d at ∙ ap (of_step t at (tree_at t (d - 1))) (sym e ∙ ap Ok e')
 
-pub step_in : (t : List ℕ) (d at : ℕ) (s r : Step) → s ≡ step_at t at (ltb 0 d) → s ≡ r → StepIn t d at r
-step_in t d at s r e e' = subst (StepIn t d at) (sym e ∙ e') (judged_in t d at)
+pub step_in : (t : List ℕ) (d at : ℕ) (x y : Record) → Ok x ≡ step_at t at (ltb 0 d) → x ≡ y → StepIn t d at (Ok y)
+step_in t d at x y e e' = subst (StepIn t d at) (sym e ∙ ap Ok e') (judged_in t d at)
+
+pub fault_tree : (t : List ℕ) (d at : ℕ) (f : Fault) → Err f ≡ step_at t at (ltb 0 d) → tree_at t d at ≡ refused (number_of f) at
+fault_tree t d at f e = tree_step t d at ∙ ap (of_step t at (tree_at t (d - 1))) (sym e)
 
 -- ---- a record that was read as y, judged
 
 pub then_is : {A : Type 0} (b b' : Bool) (x y : A) → b ≡ b' → b ≡ true → x ≡ cond b' x y
 then_is b b' x y e h = rw (← e, h) refl
 
-pub else_is : {A : Type 0} (b b' : Bool) (x y : A) → b ≡ b' → b ≡ false → y ≡ cond b' x y
-else_is b b' x y e h = rw (← e, h) refl
-
-pub judged_is : (t : List ℕ) (at : ℕ) (o : Bool) (x y : Record) (s : Step) → x ≡ record_at t at → x ≡ y → s ≡ step_of t at o y → s ≡ step_at t at o
+pub judged_is : (t : List ℕ) (at : ℕ) (o : Bool) (x y : Record) (s : CodeResult Record Fault) → Ok x ≡ record_at t at → x ≡ y → s ≡ step_of t at o (Ok y)
+    → s ≡ step_at t at o
 unfolding step_at
-judged_is t at o x y s e e' f = f ∙ ap (step_of t at o) (sym e' ∙ e)
-
-pub symbol_is : (t : List ℕ) (at : ℕ) (x y : Record) (r : ℕ) → x ≡ record_at t at → x ≡ y → r ≡ past_name t at y → r ≡ past_symbol t at
-unfolding past_symbol
-symbol_is t at x y r e e' f = f ∙ ap (past_name t at) (sym e' ∙ e)
+judged_is t at o x y s e e' f = f ∙ ap (step_of t at o) (ap Ok (sym e') ∙ e)
 
 -- `past_symbol` never goes back
 pub symbol_from : (t : List ℕ) (at q : ℕ) → q ≡ past_symbol t at → at ≤ q
@@ -50,12 +50,12 @@ symbol_from t at q e = rw e (by (record_at t at))
     named true len = omega arith
     named false len = omega arith
 
-    by : (x : Record) → at ≤ past_name t at x
-    by (Symbol len) = named (is_symbol (payload t at len)) len
-    by Integer = omega arith
-    by (Binding len) = omega arith
-    by (ListOf n) = omega arith
-    by (Bad n) = omega arith
+    by : (x : CodeResult Record Fault) → at ≤ past_name t at x
+    by (Ok (Symbol len)) = named (is_symbol (payload t at len)) len
+    by (Ok Integer) = omega arith
+    by (Ok (Binding len)) = omega arith
+    by (Ok (ListOf n)) = omega arith
+    by (Err f) = omega arith
 
 -- where `past_symbol` goes on, a good symbol stands
 pub symbol_there : (t : List ℕ) (d at q : ℕ) → q ≡ past_symbol t at → at < q
@@ -63,21 +63,21 @@ pub symbol_there : (t : List ℕ) (d at q : ℕ) → q ≡ past_symbol t at → 
 unfolding past_symbol
 symbol_there t d at q e l = by (record_at t at) refl e
   where
-    named : (len : ℕ) (b : Bool) → record_at t at ≡ Symbol len → is_symbol (payload t at len) ≡ b → q ≡ cond b (at + len) at
+    named : (len : ℕ) (b : Bool) → record_at t at ≡ Ok (Symbol len) → is_symbol (payload t at len) ≡ b → q ≡ cond b (at + len) at
         → (head_len ≤ q - at) × (q - at ≤ length t - at) × (tree_at t d at ≡ ok (found (symbol (payload t at (q - at))) q))
     named len false f g k = absurd (omega arith)
     named len true f g k =
-        let h = symbol_in t at len (record_at t at) refl f in
+        let h = symbol_in t at len (Symbol len) (sym f) refl in
         let z : q - at ≡ len = omega arith in
-        rw (z, k) (h.0, h.1, tree_of_lem t d at (Symbol len) (sym f) ∙ rw g refl)
+        rw (z, k) (h.0, h.1, tree_of_lem t d at (Ok (Symbol len)) (sym f) ∙ rw g refl)
 
-    by : (x : Record) → record_at t at ≡ x → q ≡ past_name t at x
+    by : (x : CodeResult Record Fault) → record_at t at ≡ x → q ≡ past_name t at x
         → (head_len ≤ q - at) × (q - at ≤ length t - at) × (tree_at t d at ≡ ok (found (symbol (payload t at (q - at))) q))
-    by (Symbol len) f k = named len (is_symbol (payload t at len)) f refl k
-    by Integer f k = absurd (omega arith)
-    by (Binding len) f k = absurd (omega arith)
-    by (ListOf n) f k = absurd (omega arith)
-    by (Bad n) f k = absurd (omega arith)
+    by (Ok (Symbol len)) f k = named len (is_symbol (payload t at len)) f refl k
+    by (Ok Integer) f k = absurd (omega arith)
+    by (Ok (Binding len)) f k = absurd (omega arith)
+    by (Ok (ListOf n)) f k = absurd (omega arith)
+    by (Err n) f k = absurd (omega arith)
 
 -- a tree that is found ends past its place and within the table
 pub found_in : (t : List ℕ) (d p q : ℕ) (x : Tree) → p ≤ length t → tree_at t d p ≡ ok (found x q) → (p < q) × (q ≤ length t)
@@ -200,3 +200,18 @@ module _ (t : List ℕ) (p : ℕ) (g : Read t p) where
       by : (k : ℕ) → shape_of t ≡ and_then (trees_at t k p) (λ ys q. ok (found (g.pre ys) q)) → shape_of t ≡ ok (found (g.pre none) p)
       by zero f = f
       by (suc k) f = f ∙ rw (le-ltb p (length t) le) refl
+
+-- ---- the room of a good record x
+
+module _ (t : List ℕ) (d at : ℕ) (x : Record) (e : Ok x ≡ step_at t at (ltb 0 d)) where
+  pub symbol_room : (len : ℕ) → x ≡ Symbol len → (head_len ≤ len) × (at + len ≤ length t)
+  symbol_room len e' = let h = step_in t d at x (Symbol len) e e' in (h.0, omega (arith, h.0, h.1))
+
+  pub integer_room : x ≡ Integer → at + integer_len ≤ length t
+  integer_room e' = omega (arith, (step_in t d at x Integer e e').0)
+
+  pub binding_room : (len : ℕ) → x ≡ Binding len → (0 < d) × (head_len ≤ len) × (at + len ≤ length t)
+  binding_room len e' = let h = step_in t d at x (Binding len) e e' in (h.2, h.0, omega (arith, h.0, h.1))
+
+  pub list_room : (n : ℕ) → x ≡ ListOf n → (0 < d) × (at + list_len ≤ length t)
+  list_room n e' = let h = step_in t d at x (ListOf n) e e' in (h.1, omega (arith, h.0))

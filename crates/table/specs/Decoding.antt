@@ -1,17 +1,16 @@
 -- A table decoded, once, into its trees or the first refusal (document 01, 'Order'; stored costs: document 02, 7/12).
-use Rattle.std.specs.Prelude.{ℕ, zero, suc, ◌+◌, Bool, true, false, cond, List, ltb, length}
-use Rattle.refusals.specs.Numbers.{table_limit, depth_limit, too_long, too_deep, bad_symbol}
+use Rattle.std.specs.Prelude.{ℕ, zero, suc, ◌+◌, Bool, true, false, cond, List, ltb, length, Result as CodeResult, Ok, Err}
+use Rattle.refusals.specs.Numbers.{table_limit, depth_limit, too_long, too_deep, number_of}
+use Rattle.refusals.specs.declared.Fault.{Fault}
+use Rattle.refusals.specs.declared.Fault.TheVariants as fault
+use Rattle.refusals.specs.declared.Refusal.{Refusal}
 use Rattle.refusals.specs.Result.{Result, ok, refused, refused_by}
 use Rattle.wide.specs.Bytes.{integer_at}
 use Rattle.records.specs.Records.{head_len, payload}
 use Rattle.table.specs.Kinds.{integer_len, list_len}
 use Rattle.table.specs.Trees.{Tree, Trees, symbol, integer, binding, list, none, more, is_symbol}
-use Rattle.table.specs.Records.{Record, Symbol, Integer, Binding, ListOf, Bad, record_at}
+use Rattle.table.specs.Records.{Record, Symbol, Integer, Binding, ListOf, record_at}
 use Rattle.table.specs.Costs.{costed_all}
-pub use Rattle.table.specs.declared.Step.{Step}
-use Rattle.table.specs.declared.Step.TheVariants as step
-use Rattle.table.specs.declared.Checked.{Checked}
-use Rattle.table.specs.declared.Checked.TheVariants as checked
 
 -- what stands at a place, and the place past it
 pub data Found (A : Type 0) : Type 0 where
@@ -28,24 +27,24 @@ items_at f zero at = ok (found none at)
 items_at f (suc n) at = and_then (f at) (λ x q. and_then (items_at f n q) (λ xs r. ok (found (more x xs) r)))
 
 -- a record judged by itself: 22, or 15, 20, 21, 13, 16; `deeper` says if one more list or binding may be open
-abbrev pub step_of : List ℕ → ℕ → Bool → Record → Step
-step_of t at deeper (Bad n) = step.Fault n
-step_of t at deeper (Symbol len) = cond (is_symbol (payload t at len)) (step.Symbol len) (step.Fault bad_symbol)
-step_of t at deeper Integer = step.Integer
-step_of t at deeper (Binding len) =
-    cond deeper (cond (is_symbol (payload t at len)) (step.Binding len) (step.Fault bad_symbol)) (step.Fault too_deep)
-step_of t at deeper (ListOf n) = cond deeper (step.List n) (step.Fault too_deep)
+abbrev pub step_of : List ℕ → ℕ → Bool → CodeResult Record Fault → CodeResult Record Fault
+step_of t at deeper (Err f) = Err f
+step_of t at deeper (Ok (Symbol len)) = cond (is_symbol (payload t at len)) (Ok (Symbol len)) (Err fault.BadSymbol)
+step_of t at deeper (Ok Integer) = Ok Integer
+step_of t at deeper (Ok (Binding len)) =
+    cond deeper (cond (is_symbol (payload t at len)) (Ok (Binding len)) (Err fault.BadSymbol)) (Err fault.TooDeep)
+step_of t at deeper (Ok (ListOf n)) = cond deeper (Ok (ListOf n)) (Err fault.TooDeep)
 
-unfoldable pub step_at : List ℕ → ℕ → Bool → Step
+unfoldable pub step_at : List ℕ → ℕ → Bool → CodeResult Record Fault
 step_at t at deeper = step_of t at deeper (record_at t at)
 
 -- what a judged record comes to, where `sub` finds the trees below it
-abbrev pub of_step : List ℕ → ℕ → (ℕ → Result (Found Tree)) → Step → Result (Found Tree)
-of_step t at sub (step.Fault n) = refused n at
-of_step t at sub (step.Symbol len) = ok (found (symbol (payload t at len)) (at + len))
-of_step t at sub step.Integer = ok (found (integer (integer_at t (at + head_len))) (at + integer_len))
-of_step t at sub (step.Binding len) = and_then (sub (at + len)) (λ x q. ok (found (binding (payload t at len) x) q))
-of_step t at sub (step.List n) = and_then (items_at sub n (at + list_len)) (λ xs q. ok (found (list xs) q))
+abbrev pub of_step : List ℕ → ℕ → (ℕ → Result (Found Tree)) → CodeResult Record Fault → Result (Found Tree)
+of_step t at sub (Err f) = refused (number_of f) at
+of_step t at sub (Ok (Symbol len)) = ok (found (symbol (payload t at len)) (at + len))
+of_step t at sub (Ok Integer) = ok (found (integer (integer_at t (at + head_len))) (at + integer_len))
+of_step t at sub (Ok (Binding len)) = and_then (sub (at + len)) (λ x q. ok (found (binding (payload t at len) x) q))
+of_step t at sub (Ok (ListOf n)) = and_then (items_at sub n (at + list_len)) (λ xs q. ok (found (list xs) q))
 
 -- the tree at `at`, with d lists and bindings still to be opened
 unfoldable pub tree_at : List ℕ → ℕ → ℕ → Result (Found Tree)
@@ -78,7 +77,7 @@ abbrev pub judged : {A : Type 0} → Result A → Result (Unit {0})
 judged (ok x) = ok tt
 judged (refused n a) = refused n a
 
--- document 01's number and values for each case of the answer's enum
-abbrev pub verdict_of : Checked → Result (Unit {0})
-verdict_of checked.Good = ok tt
-verdict_of (checked.Refused r) = refused_by r
+-- document 01's number and values for each case of the code's answer
+abbrev pub verdict_of : CodeResult (Unit {0}) Refusal → Result (Unit {0})
+verdict_of (Ok u) = ok tt
+verdict_of (Err r) = refused_by r

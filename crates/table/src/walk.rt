@@ -1,5 +1,5 @@
 // One walk over a tree, whatever its bytes: where it ends, what it costs, and whether the costs that its lists store are right.
-ghost use Rattle.std.specs.Prelude.{◌≡◌, ◌+◌, ◌≤◌, ◌<◌, length};
+ghost use Rattle.std.specs.Prelude.{◌≡◌, ◌+◌, ◌≤◌, ◌<◌, length, None};
 ghost use Rattle.refusals.specs.Result.{ok};
 ghost use Rattle.table.specs.Kinds.{list_len};
 ghost use Rattle.table.specs.Trees.{list};
@@ -8,177 +8,99 @@ ghost use Rattle.table.specs.Walking.{first_of, own_wrong, Walks};
 
 use crate::Record;
 use records::HEAD;
+use refusals::Refusal;
 
-#[derive(Clone, Copy)]
+#[derive(Clone, Copy, Debug, PartialEq, Eq)]
 pub struct Walked {
-    // A refusal's number, or 0.
-    pub number: u8,
-    // The place past the tree, or the refusal's.
+    // The place past the tree.
     pub place: usize,
     pub cost: usize,
     // The empty lists in it: each takes a byte more on a single line than it costs.
     pub empty: usize,
-    // The place of the first list that stores a wrong cost, or the table's length.
-    pub wrong: usize,
-}
-
-fn stopped(number: u8, place: usize) -> Walked
-    ensures { result ≡ record { number = number; place = place; cost = 0; empty = 0; wrong = 0 } }
-{
-    Walked {
-        number,
-        place,
-        cost: 0,
-        empty: 0,
-        wrong: 0,
-    }
+    // The place of the first list that stores a wrong cost.
+    pub wrong: Option<usize>,
 }
 
 // A symbol or an integer of n bytes.
-fn atom(place: usize, n: usize, none: usize) -> Walked
-    ensures { result ≡ record { number = 0; place = place; cost = n; empty = 0; wrong = none } }
+fn atom(place: usize, n: usize) -> Walked
+    ensures { result ≡ record { place = place; cost = n; empty = 0; wrong = None } }
 {
     Walked {
-        number: 0,
         place,
         cost: n,
         empty: 0,
-        wrong: none,
+        wrong: None,
     }
 }
 
-// The place of the first wrong cost, where one was found before or is found next, or `none`.
-pub fn earlier(wrong: usize, next: usize, none: usize) -> usize
-    ensures { result ≡ first_of none wrong next }
+// The place of the first wrong cost, where one was found before or is found next: `or` by the name of a public promise.
+pub fn earlier(wrong: Option<usize>, next: Option<usize>) -> Option<usize>
+    ensures { result ≡ first_of wrong next }
 {
-    if wrong == none {
-        return next;
-    }
-    wrong
+    wrong.or(next)
 }
 
-// The place of the list at `at` if it stores another cost than `cost`, or the table's length.
-pub fn own_wrong(t: &[u8], at: usize, cost: usize) -> usize
+// The place of the list at `at` if it stores another cost than `cost`.
+pub fn own_wrong(t: &[u8], at: usize, cost: usize) -> Option<usize>
     ensures { result ≡ own_wrong t.now at cost }
 {
-    if crate::stored_cost(t, at) == cost {
-        return t.len();
-    }
-    at
+    (crate::stored_cost(t, at) != cost).then_some(at)
 }
 
 // The tree at `at`, with `depth` lists and bindings still to be opened.
 #[cycle(walk_list_walk_tree)]
-pub fn walk_tree(t: &[u8], at: usize, depth: usize) -> Walked
+#[tactic(auto, using(crate::proofs::Walks::at_record))]
+pub fn walk_tree(t: &[u8], at: usize, depth: usize) -> Result<Walked, Refusal>
     ensures { Walks t.now at (tree_at t.now depth at) result }
 {
-    let node = crate::record_at(t, at);
-    match node {
-        Record::Bad(number) => stopped(number, at),
-        Record::Symbol(len) => {
-            if crate::is_name(t, at, len) {
-                return atom(at + len, len - HEAD, t.len());
-            }
-            stopped(refusals::BAD_SYMBOL, at)
-        }
-        Record::Integer => atom(
+    match crate::step_at(t, at, 0 < depth) {
+        Err(fault) => Err(fault.at(at)),
+        Ok(Record::Symbol(len)) => Ok(atom(at + len, len - HEAD)),
+        Ok(Record::Integer) => Ok(atom(
             at + crate::INTEGER_LEN,
             wide::text_len(wide::wide_at(t, at + HEAD)),
-            t.len(),
-        ),
-        Record::Binding(len) => {
-            if depth == 0 {
-                return stopped(refusals::TOO_DEEP, at);
-            }
-            if crate::is_name(t, at, len) {
-                let x = walk_tree(t, at + len, depth - 1);
-                if 0 < x.number {
-                    return stopped(x.number, x.place);
-                }
-                let cost = len - HEAD + 3 + x.cost;
-                return Walked {
-                    number: 0,
-                    place: x.place,
-                    cost,
-                    empty: x.empty,
-                    wrong: x.wrong,
-                };
-            }
-            stopped(refusals::BAD_SYMBOL, at)
+        )),
+        Ok(Record::Binding(len)) => {
+            let x = walk_tree(t, at + len, depth - 1)?;
+            let cost = len - HEAD + 3 + x.cost;
+            Ok(Walked { cost, ..x })
         }
-        Record::List(n) => {
-            if depth == 0 {
-                return stopped(refusals::TOO_DEEP, at);
-            }
-            walk_list(t, at, n, depth - 1)
-        }
+        Ok(Record::List(n)) => walk_list(t, at, n, depth - 1),
     }
 }
 
 // The list of n items at `at`. A symbol in it takes no call of its own, and a list is not judged twice.
 #[cycle(walk_list_walk_tree)]
-fn walk_list(t: &[u8], at: usize, n: usize, depth: usize) -> Walked
+#[tactic(auto, using(crate::proofs::Reading::symbol_fits, crate::proofs::Walks::counted_begin))]
+fn walk_list(t: &[u8], at: usize, n: usize, depth: usize) -> Result<Walked, Refusal>
     requires { (at + list_len ≤ length t.now) × (n < 4294967296) }
     ensures { Walks t.now at (and_then (items_at (tree_at t.now depth) n (at + list_len)) (λ xs q. ok (found (list xs) q))) result }
 {
     let mut p = at + crate::LIST_LEN;
-    if n == 0 {
-        return Walked {
-            number: 0,
-            place: p,
-            cost: 1,
-            empty: 1,
-            wrong: own_wrong(t, at, 1),
-        };
-    }
-    let mut i = 0;
     let mut cost = n + 1;
-    let mut empty = 0;
-    let mut wrong = t.len();
-    while i < n {
-        let node = crate::record_at(t, p);
-        match node {
-            Record::Symbol(len) => {
-                if crate::is_name(t, p, len) {
-                    cost = cost + (len - HEAD);
-                    p = p + len;
-                } else {
-                    return stopped(refusals::BAD_SYMBOL, p);
-                }
+    let mut empty = usize::from(n == 0);
+    let mut wrong = None;
+    for _ in 0..n {
+        let x = match crate::record_at(t, p) {
+            Ok(Record::Symbol(len)) if crate::is_name(t, p, len) => {
+                cost += len - HEAD;
+                p += len;
+                continue;
             }
-            Record::List(m) => {
-                if depth == 0 {
-                    return stopped(refusals::TOO_DEEP, p);
-                }
-                let x = walk_list(t, p, m, depth - 1);
-                if 0 < x.number {
-                    return stopped(x.number, x.place);
-                }
-                cost = cost + x.cost;
-                empty = empty + x.empty;
-                wrong = earlier(wrong, x.wrong, t.len());
-                p = x.place;
-            }
-            _ => {
-                let x = walk_tree(t, p, depth);
-                if 0 < x.number {
-                    return stopped(x.number, x.place);
-                }
-                cost = cost + x.cost;
-                empty = empty + x.empty;
-                wrong = earlier(wrong, x.wrong, t.len());
-                p = x.place;
-            }
-        }
-        i += 1;
+            Ok(Record::List(m)) if 0 < depth => walk_list(t, p, m, depth - 1)?,
+            _ => walk_tree(t, p, depth)?,
+        };
+        cost += x.cost;
+        empty += x.empty;
+        wrong = earlier(wrong, x.wrong);
+        p = x.place;
     }
     // A list's own wrong cost comes before those inside it.
     let own = own_wrong(t, at, cost);
-    Walked {
-        number: 0,
+    Ok(Walked {
         place: p,
         cost,
         empty,
-        wrong: earlier(own, wrong, t.len()),
-    }
+        wrong: earlier(own, wrong),
+    })
 }

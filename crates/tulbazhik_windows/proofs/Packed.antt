@@ -1,12 +1,14 @@
 -- A cursor whose numbers fit their types comes back from its words; so does every answer. Assumes nothing.
 use mathlib.Core.Path.{◌≡◌, refl, sym, ap, ◌∙◌}
 use mathlib.Core.Bool.{cond}
-use mathlib.Core.List.{List, [], ◌∷◌}
+use mathlib.Core.List.{List, [], ◌∷◌, append_assoc}
 use Prim.Native.Nat.{ℕ, zero, suc, ◌+◌, ◌*◌, ◌/◌, ◌%◌, ◌≤◌, ◌<◌}
 use native.Mathlib.Omega.{arith}
 use lib.Dec.{eqb}
 use lib.ListN.{length, length-set, get_or, set}
-use lib.Seq.{sets, get_or-set_same, get_or-set_other}
+use lib.Seq.{sets, drop-drop, get_or-set_same, get_or-set_other}
+use borrow.Rule.Slice.PartMut.{put_mid}
+use Rattle.std.proofs.lemmas.List.Edits.{sets-eq}
 use Rattle.refusals.specs.Result.{ok, refused}
 use Rattle.words.specs.Words.{end_answer, refused_answer}
 use Rattle.windows.specs.declared.Phase.{Phase}
@@ -32,6 +34,11 @@ sets_at (x ∷ xs) w i (suc k) h r =
 -- the items due are 32 bits, the margin and the indent a byte
 abbrev pub Fits : Cursor → Type 0
 Fits c = (c.due < 4294967296) × (c.margin < 256) × (c.indent < 256) × (c.looked < 4294967296)
+
+-- the words as the code stores them, all at once
+pub stored_at : (c : Cursor) (w ys : List ℕ) → length w ≡ 72 → ys ≡ cursor_words c → put_mid 64 8 w ys ≡ stored c w
+unfolding stored
+stored_at c w ys l e = rw (e, sets-eq (cursor_words c) w 64 (omega arith), append_assoc, drop-drop 8 64 w) refl
 
 phase_back : (f : Phase) → phase_in (phase_word f) ≡ f
 unfolding phase_in

@@ -9,13 +9,15 @@ use lib.Dec.{leb, eqb, ltb}
 use lib.ListN.{length, length-set, get_or, set, take, replicate, get_or-replicate}
 use lib.Seq.{length-sets, get_or-set_same, get_or-set_other}
 use borrow.Author.Tests.{eqb-true, eqb-false, ltb-true}
+use Rattle.std.specs.Prelude.{Result as CodeResult, Ok, Err}
+use Rattle.refusals.specs.declared.Fault.{Fault}
 use Rattle.refusals.specs.Result.{Result, ok, refused}
 use Rattle.refusals.specs.Numbers.{depth_limit}
 use Rattle.lists.specs.Over.{over}
 use Rattle.lists.proofs.Choice.{pick}
 use Rattle.wide.specs.Bytes.{Bytes}
 use Rattle.table.specs.declared.Record.{Record}
-use Rattle.table.specs.declared.Record.TheVariants.{Symbol, Integer, Binding, List as ListOf, Bad}
+use Rattle.table.specs.declared.Record.TheVariants.{Symbol, Integer, Binding, List as ListOf}
 use Rattle.table.specs.Records.{record_at}
 use Rattle.table.specs.Trees.{Trees}
 use Rattle.table.specs.Decoding.{Found, found, table_of}
@@ -27,7 +29,7 @@ use Rattle.windows.specs.declared.Cursor.{Cursor}
 use Rattle.windows.specs.declared.State.{State}
 use Rattle.windows.specs.Machine.{state, is_done, is_fresh, single_margin, mode_of, past, test_for, margin_for, held_due, held_margin, list_next, node_next, gap_for, phase_next, next_of, fresh_state, start_cursor}
 use Rattle.windows.specs.Filling.{Ran, rest, turn, run, part, Call, go_on, first, fill_of, handed, given_by, Answer, calls}
-use Rattle.windows.proofs.Steps.{cursor}
+use Rattle.windows.proofs.Prints.{cursor}
 use Rattle.tulbazhik_windows.specs.States.{cursor_words, stored, state_words, part_words, phase_in, cursor_in, unpack_of, calls_through, ThroughWords}
 use Rattle.tulbazhik_windows.proofs.Packed.{Fits, back, sets_below}
 
@@ -57,22 +59,22 @@ low_set k k' i x h l = (length-set k i x ∙ l.0, length-set k' i x ∙ l.1, λ 
 
 -- ---- a list's items are 32 bits
 
-abbrev Small : Record → Type 0
-Small (Symbol n) = Unit {0}
-Small Integer = Unit {0}
-Small (Binding n) = Unit {0}
-Small (ListOf n) = n < 4294967296
-Small (Bad n) = Unit {0}
+abbrev Small : CodeResult Record Fault → Type 0
+Small (Ok (Symbol n)) = Unit {0}
+Small (Ok Integer) = Unit {0}
+Small (Ok (Binding n)) = Unit {0}
+Small (Ok (ListOf n)) = n < 4294967296
+Small (Err f) = Unit {0}
 
 record_small : (t : List ℕ) → Bytes t → (p : ℕ) → Small (record_at t p)
 record_small t h p = by (record_at t p) refl
   where
-    by : (x : Record) → record_at t p ≡ x → Small x
-    by (Symbol n) e = tt
-    by Integer e = tt
-    by (Binding n) e = tt
-    by (ListOf n) e = list_small t p n (record_at t p) h refl e
-    by (Bad n) e = tt
+    by : (x : CodeResult Record Fault) → record_at t p ≡ x → Small x
+    by (Ok (Symbol n)) e = tt
+    by (Ok Integer) e = tt
+    by (Ok (Binding n)) e = tt
+    by (Ok (ListOf n)) e = list_small t p n (ListOf n) h (sym e) refl
+    by (Err f) e = tt
 
 -- ---- the machine
 
@@ -86,12 +88,12 @@ module _ (t : List ℕ) (w : ℕ) (bytes : Bytes t) where
       (λ e. let d : c.depth < 64 = ltb-true c.depth depth_limit e in (refl, low_set k k' c.depth _ d l, (omega (arith, d), (omega arith, margin_small c g, g.1.2, omega arith))))
       (λ _. (refl, l, g))
 
-  node_twins : (c : Cursor) (k k' : List ℕ) (x : Record) → Small x → Low k k' → Good c → Twins (node_next t w (state c k) x) (node_next t w (state c k') x)
-  node_twins c k k' (Symbol n) h l g = (refl, l, g)
-  node_twins c k k' Integer h l g = (refl, l, g)
-  node_twins c k k' (Binding n) h l g = (refl, l, g)
-  node_twins c k k' (ListOf n) h l g = list_twins c k k' n h l g
-  node_twins c k k' (Bad n) h l g = (refl, l, g)
+  node_twins : (c : Cursor) (k k' : List ℕ) (x : CodeResult Record Fault) → Small x → Low k k' → Good c → Twins (node_next t w (state c k) x) (node_next t w (state c k') x)
+  node_twins c k k' (Ok (Symbol n)) h l g = (refl, l, g)
+  node_twins c k k' (Ok Integer) h l g = (refl, l, g)
+  node_twins c k k' (Ok (Binding n)) h l g = (refl, l, g)
+  node_twins c k k' (Ok (ListOf n)) h l g = list_twins c k k' n h l g
+  node_twins c k k' (Err f) h l g = (refl, l, g)
 
   gap_good : (c : Cursor) → Good c → Good (gap_for c w (mode_of c.margin))
   gap_good c g =

@@ -1,26 +1,15 @@
 -- The state of a windowed print as 72 words, for callers in C: the stack's 64, then the cursor's eight. Zeros are the fresh state. And a call's answer as eight words.
-use Rattle.std.specs.Prelude.{ℕ, ◌+◌, ◌*◌, ◌/◌, ◌%◌, ◌≡◌, cond, List, [], ◌∷◌, ◌++◌, eqb, get_or, replicate}
+use Rattle.std.specs.Prelude.{ℕ, ◌+◌, ◌*◌, ◌/◌, ◌%◌, ◌≡◌, List, [], ◌∷◌, ◌++◌, get_or, replicate}
 use Rattle.std.proofs.lemmas.List.Edits.{sets}
 use Rattle.refusals.specs.Result.{ok, refused}
 use Rattle.wide.specs.Bytes.{Bytes}
 use Rattle.words.specs.Words.{done_words, ended_words, refused_words}
-use Rattle.windows.specs.declared.Phase.{Phase}
-use Rattle.windows.specs.declared.Phase.TheVariants.{Fresh, Node, Sign, Gap, Back, Close, Line, Between, Done}
 use Rattle.windows.specs.declared.Cursor.{Cursor}
 use Rattle.windows.specs.declared.State.{State}
+pub use Rattle.windows.specs.Machine.{phase_word}
+unfoldable pub use Rattle.windows.specs.Machine.{phase_in}
 use Rattle.windows.specs.Machine.{state, fresh_state}
 use Rattle.windows.specs.Filling.{part, end, Answer, Call, fill_of, handed, calls}
-
-abbrev pub phase_word : Phase → ℕ
-phase_word Fresh = 0
-phase_word Node = 1
-phase_word Sign = 2
-phase_word Gap = 3
-phase_word Back = 4
-phase_word Close = 5
-phase_word Line = 6
-phase_word Between = 7
-phase_word Done = 8
 
 -- the cursor's words, over those from 64 on; the items due and the records looked at share one
 abbrev pub cursor_words : Cursor → List ℕ
@@ -47,17 +36,6 @@ abbrev pub call_words : Call → List ℕ
 call_words c = part_words c.answer
 
 -- any words mean a state: a number that is too large is cut to its type, and a phase past the last one is the last
-unfoldable pub phase_in : ℕ → Phase
-phase_in k =
-    cond (eqb k 0) Fresh
-    (cond (eqb k 1) Node
-    (cond (eqb k 2) Sign
-    (cond (eqb k 3) Gap
-    (cond (eqb k 4) Back
-    (cond (eqb k 5) Close
-    (cond (eqb k 6) Line
-    (cond (eqb k 7) Between Done)))))))
-
 unfoldable pub cursor_in : List ℕ → Cursor
 cursor_in w =
     record {

@@ -9,21 +9,20 @@ ghost use Rattle.tulbazhik_windows.specs.States.{unpack_of, call_words, state_wo
 
 use windows::{Answer, Moved};
 
+#[tactic(auto, unfolding(crate::specs::States::part_words))]
 fn put_filled(m: Moved, state: &mut [u64; 72], answer: &mut [u64; 8])
     ensures { (state.new ≡ state_words (call_at m state.old [])) × (answer.new ≡ call_words (call_at m state.old [])) }
 {
-    let a = m.answer;
-    let c = m.cursor;
-    match a {
-        Answer::Bytes(n) => {
-            states::store(c, state);
+    match m.answer {
+        Ok(Answer::Bytes(n)) => {
+            states::store(m.cursor, state);
             words::put_length(n, answer);
         }
-        Answer::End(looked) => {
-            states::store(c, state);
+        Ok(Answer::End(looked)) => {
+            states::store(m.cursor, state);
             *answer = [words::END, 0, 0, 0, 0, 0, looked as u64, 0];
         }
-        Answer::Refused(r) => words::put_refusal(r, 0, answer),
+        Err(r) => words::put_refusal(r, 0, answer),
     }
 }
 

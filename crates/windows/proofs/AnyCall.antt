@@ -84,8 +84,8 @@ given_within t w s b =
 
 pub no_room : NoRoom
 no_room t w s b n h =
-    fill_cases t w s b (λ (c : Call). c.answer ≡ ok (part n) → c ≡ call (ok (part 0)) s b) (λ at e f. let z : ◌≡◌ {A = ℕ} 0 1 = cc in absurd (omega arith)) (λ e f. refl)
-    (λ at l f. absurd (omega arith)) (λ m a e g f. let z : ◌≡◌ {A = ℕ} 0 1 = cc in absurd (omega arith))
+    fill_cases t w s b (λ (c : Call). c.answer ≡ ok (part n) → c ≡ call (ok (part 0)) s b) (λ at e f. cc) (λ e f. refl)
+    (λ at l f. absurd (omega arith)) (λ m a e g f. cc)
 
 -- a state whose end was answered with k
 abbrev Over : ℕ → State → Type 0
@@ -94,8 +94,8 @@ Over k s = (is_done s.cursor.phase ≡ true) × (s.cursor.looked ≡ k)
 fill_over : (t : List ℕ) (w : ℕ) (s : State) (b : List ℕ) (k : ℕ) → (fill_of t w s b).answer ≡ ok (end k) → Over k (fill_of t w s b).state
 fill_over t w s b k =
     fill_cases t w s b (λ (c : Call). c.answer ≡ ok (end k) → Over k c.state) (λ at e f. (e, cc))
-    (λ e f. let z : ◌≡◌ {A = ℕ} 0 1 = cc in absurd (omega arith)) (λ at l f. let z : ◌≡◌ {A = ℕ} 0 1 = cc in absurd (omega arith))
-    (λ n a e g f. let z : ◌≡◌ {A = ℕ} 0 1 = cc in absurd (omega arith))
+    (λ e f. cc) (λ at l f. cc)
+    (λ n a e g f. cc)
 
 pub end_stays : EndStays
 end_stays t w s b b' k h =
@@ -109,6 +109,6 @@ pub refused_at_first : RefusedAtFirst
 refused_at_first t w s b n a =
     fill_cases t w s b
     (λ (c : Call). c.answer ≡ refused n a → (is_fresh s.cursor.phase ≡ true) × (table_of t ≡ refused n a) × (c ≡ call (refused n a) s b))
-    (λ at e f. let z : ◌≡◌ {A = ℕ} 0 1 = cc in absurd (omega arith)) (λ e f. let z : ◌≡◌ {A = ℕ} 0 1 = cc in absurd (omega arith))
-    (λ at l f. let z : ◌≡◌ {A = ℕ} 0 1 = cc in absurd (omega arith))
+    (λ at e f. cc) (λ e f. cc)
+    (λ at l f. cc)
     (λ m c e g f. let em : m ≡ n = cc in let ec : c ≡ a = cc in (e, rw (sym em, sym ec) g, rw (em, ec) refl))

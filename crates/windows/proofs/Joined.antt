@@ -4,12 +4,14 @@ use Rattle.std.proofs.Common.{◌≡◌, ℕ, zero, suc, ◌+◌, ◌-◌, ◌%�
 use mathlib.Core.Path.{subst⁻¹}
 use lib.Seq.{take-nil, drop-nil, take-append-le, drop-append-le, take-append-add, drop-append-add}
 use borrow.Author.Tests.{eqb-false}
+use Rattle.std.specs.Prelude.{Result as CodeResult, Ok, Err}
 use Rattle.refusals.specs.Result.{ok, refused}
+use Rattle.refusals.specs.declared.Fault.{Fault}
 use Rattle.lists.specs.Over.{over}
 use Rattle.wide.specs.Bytes.{Bytes}
 use Rattle.table.specs.Trees.{Trees}
 use Rattle.table.specs.declared.Record.{Record}
-use Rattle.table.specs.declared.Record.TheVariants.{Symbol, Integer, Binding, List as ListOf, Bad}
+use Rattle.table.specs.declared.Record.TheVariants.{Symbol, Integer, Binding, List as ListOf}
 use Rattle.table.specs.Records.{record_at}
 use Rattle.table.specs.Decoding.{found, table_of}
 use Rattle.table.proofs.Whole.{sound}
@@ -39,19 +41,19 @@ module _ (t : List ℕ) (w total : ℕ) where
   test_given c n Wrap = refl
   test_given c n SingleLine = refl
 
-  node_given : (s : State) (n : ℕ) (x : Record) → node_next t w (more_given s n) x ≡ node_next t w s x
-  node_given s n (Symbol len) = refl
-  node_given s n Integer = refl
-  node_given s n (Binding len) = refl
-  node_given s n (ListOf m) = rw (test_given s.cursor (s.cursor.given + n) (mode_of s.cursor.margin)) refl
-  node_given s n (Bad m) = refl
+  node_given : (s : State) (n : ℕ) (x : CodeResult Record Fault) → node_next t w (more_given s n) x ≡ node_next t w s x
+  node_given s n (Ok (Symbol len)) = refl
+  node_given s n (Ok Integer) = refl
+  node_given s n (Ok (Binding len)) = refl
+  node_given s n (Ok (ListOf m)) = rw (test_given s.cursor (s.cursor.given + n) (mode_of s.cursor.margin)) refl
+  node_given s n (Err f) = refl
 
   gap_given : (c : Cursor) (n : ℕ) (m : Wrapping) → gap_for (regiven c n) w m ≡ gap_for c w m
   gap_given c n Wrap = refl
   gap_given c n SingleLine = refl
 
   phase_given : (s : State) (n : ℕ) (f : Phase) → is_done f ≡ false → is_fresh f ≡ false → phase_next t w (more_given s n) f ≡ phase_next t w s f
-  phase_given s n Fresh e b = let z : ◌≡◌ {A = ℕ} 0 1 = cc in absurd (omega arith)
+  phase_given s n Fresh e b = cc
   phase_given s n Node e b = node_given s n (record_at t s.cursor.at)
   phase_given s n Sign e b = refl
   phase_given s n Gap e b =
@@ -60,7 +62,7 @@ module _ (t : List ℕ) (w total : ℕ) where
   phase_given s n Close e b = refl
   phase_given s n Line e b = refl
   phase_given s n Between e b = refl
-  phase_given s n Done e b = let z : ◌≡◌ {A = ℕ} 0 1 = cc in absurd (omega arith)
+  phase_given s n Done e b = cc
 
   next_given : (s : State) (n : ℕ) → is_done s.cursor.phase ≡ false → is_fresh s.cursor.phase ≡ false → next_of t w (more_given s n) ≡ next_of t w s
   unfolding next_of

@@ -1,4 +1,3 @@
-pub mod Steps
 pub mod Giving
 pub mod AnyCall
 pub mod NeverRoom

@@ -20,7 +20,7 @@ unfolding printing printed_into
 windows_printed t w n k b s hb e h bs = by (table_of t) refl e
   where
     by : (y : Result (Found Trees)) → table_of t ≡ y → answered y w (length b) ≡ ok (text n k) → Windowed t w s bs (take n (leaves y w b)) k
-    by (refused m a) f g = let z : ◌≡◌ {A = ℕ} 0 1 = cc in absurd (omega arith)
+    by (refused m a) f g = cc
     by (ok (found xs q)) f g = sized (leb (length (page xs w)) (length b)) g
       where
         sized : (z : Bool) → cond z (ok (text (length (page xs w)) (page_looked xs w))) (refused print_room (length (page xs w))) ≡ ok (text n k)
@@ -29,7 +29,7 @@ windows_printed t w n k b s hb e h bs = by (table_of t) refl e
             let en : length (page xs w) ≡ n = cc in
             let ek : page_looked xs w ≡ k = cc in
             subst⁻¹ (λ (o : List ℕ). Windowed t w s bs o k) (take_at (page xs w) (drop (length (page xs w)) b) n en) (subst (Windowed t w s bs (page xs w)) ek (windows_joined t w xs q s hb f h bs))
-        sized false r = let z : ◌≡◌ {A = ℕ} 0 1 = cc in absurd (omega arith)
+        sized false r = cc
 
 pub print_refused : PrintRefused
 unfolding printing
@@ -43,7 +43,7 @@ print_refused t w k n a s b h e other = by (table_of t) refl e
     by (ok (found xs q)) f g = sized (leb (length (page xs w)) k) g
       where
         sized : (z : Bool) → cond z (ok (text (length (page xs w)) (page_looked xs w))) (refused print_room (length (page xs w))) ≡ refused n a → fill_of t w s b ≡ call (refused n a) s b
-        sized true j = let z : ◌≡◌ {A = ℕ} 0 1 = cc in absurd (omega arith)
+        sized true j = cc
         sized false j = absurd (other cc)
 
 -- where bytes are left, a turn gives one

@@ -3,7 +3,9 @@
 use Rattle.std.proofs.Common.{◌≡◌, ℕ, suc, ◌+◌, ◌-◌, ◌%◌, ◌^◌, ◌<◌, ◌≤◌, Bool, true, false, cond, eqb, leb, List, [], ◌∷◌, ◌++◌, length, get_or, set, sym, refl, ap, ◌∙◌, subst, append_assoc, append-nil, zero-add, arith, lit<, length-append, length-set, drop_of_length-le, get_or-set_other, get_or-set_same, le-ltb, lt-ltb, ne_eqb, leb-false, leb-true}
 use mathlib.Core.Path.{subst⁻¹}
 use borrow.Author.Tests.{lt-leb}
+use Rattle.std.specs.Prelude.{Result as CodeResult, Ok}
 use Rattle.refusals.specs.Numbers.{table_limit, depth_limit}
+use Rattle.refusals.specs.declared.Fault.{Fault}
 use Rattle.wide.specs.Bytes.{le, wide_bytes}
 use Rattle.wide.specs.Text.{integer_text}
 use Rattle.wide.proofs.Numbers.{wide_length}
@@ -24,13 +26,16 @@ use Rattle.printer.specs.Fitting.{tested, fits_at}
 use Rattle.printer.proofs.Fits.{fits_stands}
 use Rattle.printer.proofs.LayoutBounds.{inner_le}
 use Rattle.windows.specs.Machine.{Phase, Node, Sign, Gap, Back, Close, Line, Between, Done, Cursor, State, state, is_done, is_fresh, leaves, broken, single_margin, mode_of, node_put, put_of, close_phase, past, test_for, margin_for, plus, held, held_due, held_margin, opened, node_next, started, next_of}
-use Rattle.windows.proofs.Steps.{cursor}
 
 -- from s the machine puts o, byte after byte, and is then done, with `total` records looked at; of the next put nothing is given yet
 pub data Prints (t : List ℕ) (w total : ℕ) : State → List ℕ → Type 0 where
   over : (s : State) (o : List ℕ) → is_done s.cursor.phase ≡ true → s.cursor.looked ≡ total → o ≡ [] → Prints t w total s o
   puts : (s : State) (o r : List ℕ) → is_done s.cursor.phase ≡ false → (is_fresh s.cursor.phase ≡ false) × (s.cursor.given ≡ 0) → 0 < length (put_of t s.cursor)
       → o ≡ put_of t s.cursor ++ r → Prints t w total (next_of t w s) r → Prints t w total s o
+
+-- a cursor of whose next put nothing is given, with j as its count of records looked at
+abbrev pub cursor : Phase → ℕ → ℕ → ℕ → ℕ → ℕ → ℕ → ℕ → Cursor
+cursor f p k d g l i j = record { phase = f; at = p; depth = k; due = d; margin = g; left = l; indent = i; given = 0; looked = j }
 
 -- a cursor and a state of whose next put nothing is given, after u records were looked at: a cursor's count is cut to 32 bits, so that u needs no bound
 abbrev pub cur : Phase → ℕ → ℕ → ℕ → ℕ → ℕ → ℕ → ℕ → Cursor
@@ -97,11 +102,11 @@ margin_lt Wrap i h = omega arith
 
 some_bytes : (n : List ℕ) → is_symbol n ≡ true → 0 < length n
 unfolding is_symbol
-some_bytes [] e = let z : ◌≡◌ {A = ℕ} 0 1 = cc in absurd (omega arith)
+some_bytes [] e = cc
 some_bytes (b ∷ n) e = omega arith
 
 wrap_single : SingleLine ≡ Wrap → ⊥
-wrap_single z = let y : ◌≡◌ {A = ℕ} 0 1 = cc in omega arith
+wrap_single z = cc
 
 -- what a column leaves of the line leaves that column, or one past the width
 left_test : (w c : ℕ) (x : Tree) → tested (fits w (leaves w (leaves w c)) x) (looks w (leaves w (leaves w c))) ≡ tested (fits w c x) (looks w c)
@@ -147,13 +152,13 @@ module _ (t : List ℕ) (lim : length t ≤ table_limit) (w total : ℕ) where
   one s s' a o nd g e l en h = puts s (a ++ o) o nd g (rw e l) (rw e refl) (subst⁻¹ (λ (y : State). Prints t w total y o) en h)
 
   -- the put of a record, and the state after it, by the record that is read
-  node : (p k d g l i u : ℕ) (z : List ℕ) (x : Record) → x ≡ record_at t p
+  node : (p k d g l i u : ℕ) (z : List ℕ) (x : CodeResult Record Fault) → x ≡ record_at t p
       → (put_of t (cur Node p k d g l i u) ≡ node_put t p x) × (next_of t w (st Node p k d g l i u z) ≡ node_next t w (st Node p k d g l i u z) x)
   unfolding put_of next_of
   node p k d g l i u z x e = (rw e refl, rw e refl)
 
   -- an atom: its bytes, and what follows it
-  atom : (p k d g c ind u len : ℕ) (z a o : List ℕ) (x : Record) → x ≡ record_at t p → node_put t p x ≡ a → 0 < length a
+  atom : (p k d g c ind u len : ℕ) (z a o : List ℕ) (x : CodeResult Record Fault) → x ≡ record_at t p → node_put t p x ≡ a → 0 < length a
       → node_next t w (st Node p k d g (leaves w c) ind u z) x ≡ state (past (cur Node p k d g (leaves w c) ind u) (p + len) (leaves w c - length a)) z
       → depth_limit ≤ length z → After k d g u z (p + len) (c + length a) o
       → Prints t w total (st Node p k d g (leaves w c) ind u z) (a ++ o)
@@ -222,7 +227,7 @@ module _ (t : List ℕ) (lim : length t ≤ table_limit) (w total : ℕ) where
       ≡ st (cond (eqb (count xs) 0) Close Node) (p + list_len) (k + 1) (count xs - 1) (margin_at (wrapped m w c (list xs)) i) (leaves w c - 1) ind (tests m w c + u) (set z k (held d g)))
   opened_is xs a p k d g i ind c u m z good hp s hk em hi =
       let sz = good_sized (list xs) a good in
-      let n = node p k d g (leaves w c) ind u z (ListOf (count xs)) (reads (list xs) t p sz hp s) in
+      let n = node p k d g (leaves w c) ind u z (Ok (ListOf (count xs))) (reads (list xs) t p sz hp s) in
       let q : ℕ = leaves w (leaves w c) in
       let b = behind (list xs) (count xs) p k d g i ind c u m (fits_stands t p w q xs lim hp s ∙ left_test w c (list xs)) hi in
       (n.0, n.1 ∙ rw (lt-ltb k depth_limit hk, em, b) refl)
@@ -240,7 +245,7 @@ module _ (t : List ℕ) (lim : length t ≤ table_limit) (w total : ℕ) where
       let sg : List ℕ = 32 ∷ 64 ∷ 32 ∷ [] in
       let e : length n + head_len - head_len ≡ length n = omega arith in
       let f : leaves w c - length n - 3 ≡ leaves w (c + length (named n)) = simp length-append (omega arith) in
-      let nd = node p k d g (leaves w c) ind u z (Binding len) (reads (binding n x) t p sz hp s) in
+      let nd = node p k d g (leaves w c) ind u z (Ok (Binding len)) (reads (binding n x) t p sz hp s) in
       let nm = stood_payload t p binding_kind n (stood t p binding_kind n hp (lit< tt) sz.0 (stands_left t p (record_of binding_kind n) (records x) s)) in
       let s1 : State = st Sign (p + len) k d g (leaves w c - length n) ind u z in
       let q : n ++ (sg ++ (b ++ o)) ≡ ((n ++ sg) ++ b) ++ o = sym (append_assoc n sg (b ++ o)) ∙ sym (append_assoc (n ++ sg) b o) in
@@ -260,14 +265,14 @@ module _ (t : List ℕ) (lim : length t ≤ table_limit) (w total : ℕ) where
         → Prints t w total (st Node p k d g (leaves w c) ind u z) (bytes (lay x m w i c) ++ o)
     tree (symbol n) a p k d g i ind c u m z o good hp s hk hi ez hd em hin h =
         let e : length n + head_len - head_len ≡ length n = omega arith in
-        atom p k d g c ind u (length n + head_len) z n o (Symbol (length n + head_len)) (reads (symbol n) t p (good_sized (symbol n) a good) hp s)
+        atom p k d g c ind u (length n + head_len) z n o (Ok (Symbol (length n + head_len))) (reads (symbol n) t p (good_sized (symbol n) a good) hp s)
         (stood_payload t p symbol_kind n (stood t p symbol_kind n hp (lit< tt) good.1 s)) (some_bytes n good.0)
         (ap (λ (j : ℕ). state (past (cur Node p k d g (leaves w c) ind u) (p + (length n + head_len)) (leaves w c - j)) z) e) ez
         (after_at k d g (c + length n) z o _ _ _ _ (zero-add u) (ap (λ (j : ℕ). p + j) (length_record symbol_kind n)) h)
     tree (integer v) a p k d g i ind c u m z o good hp s hk hi ez hd em hin h =
         let r = value_read v t p good hp s in
         let e : length (record_of integer_kind (wide_bytes v)) ≡ integer_len = length_record integer_kind (wide_bytes v) ∙ rw (wide_length v) refl in
-        atom p k d g c ind u integer_len z (integer_text v) o Integer (reads (integer v) t p (good_sized (integer v) a good) hp s)
+        atom p k d g c ind u integer_len z (integer_text v) o (Ok Integer) (reads (integer v) t p (good_sized (integer v) a good) hp s)
         (ap integer_text r) (integer_low v)
         (rw r refl) ez
         (after_at k d g (c + length (integer_text v)) z o _ _ _ _ (zero-add u) (ap (λ (j : ℕ). p + j) e) h)

@@ -1,6 +1,7 @@
 -- A call: the bytes that it gives, the state after it, and the window (document 02, 2/12).
-use Rattle.std.specs.Prelude.{ℕ, zero, suc, ◌+◌, ◌-◌, cond, ◌||◌, List, [], ◌∷◌, ◌++◌, length, take, drop, ◌==◌, nat_le}
+use Rattle.std.specs.Prelude.{ℕ, zero, suc, ◌+◌, ◌-◌, cond, ◌||◌, List, [], ◌∷◌, ◌++◌, length, take, drop, ◌==◌, nat_le, Result as CodeResult, Ok, Err}
 use Rattle.refusals.specs.Result.{Result, ok, refused, refused_by}
+use Rattle.refusals.specs.declared.Refusal.{Refusal}
 use Rattle.lists.specs.Over.{over}
 use Rattle.table.specs.Trees.{Trees}
 use Rattle.table.specs.Decoding.{Found, found, table_of}
@@ -72,11 +73,11 @@ first t w s b (refused n a) = call (refused n a) s b
 unfoldable pub fill_of : List ℕ → ℕ → State → List ℕ → Call
 fill_of t w s b = cond (is_fresh s.cursor.phase) (first t w s b (table_of t)) (go_on t w s s b)
 
--- document 01's number and values for each case of the answer's enum, and what a call returned, its stack by value or lent
-abbrev pub answer_of : CodeAnswer → Answer
-answer_of (code.Bytes n) = ok (part n)
-answer_of (code.End k) = ok (end k)
-answer_of (code.Refused r) = refused_by r
+-- document 01's number and values for each case of the code's answer, and what a call returned, its stack by value or lent
+abbrev pub answer_of : CodeResult CodeAnswer Refusal → Answer
+answer_of (Ok (code.Bytes n)) = ok (part n)
+answer_of (Ok (code.End k)) = ok (end k)
+answer_of (Err r) = refused_by r
 
 abbrev pub call_of : CodeFilled → List ℕ → Call
 call_of f b = call (answer_of f.answer) f.state b

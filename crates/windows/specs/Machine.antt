@@ -1,12 +1,13 @@
 -- A machine that puts the text of a table piece by piece (document 02, 2/12): what is put next, and the state after it. Total on any bytes and any state.
-use Rattle.std.specs.Prelude.{ℕ, ◌+◌, ◌-◌, ◌*◌, ◌/◌, ◌%◌, ◌^◌, Bool, true, false, cond, List, [], ◌∷◌, length, replicate, ◌==◌, nat_lt, slice_index, slice_set}
+use Rattle.std.specs.Prelude.{ℕ, ◌+◌, ◌-◌, ◌*◌, ◌/◌, ◌%◌, ◌^◌, Bool, true, false, cond, List, [], ◌∷◌, length, replicate, ◌==◌, eqb, nat_lt, slice_index, slice_set, Result as CodeResult, Ok, Err}
 use Rattle.refusals.specs.Numbers.{depth_limit}
+use Rattle.refusals.specs.declared.Fault.{Fault}
 use Rattle.wide.specs.Bytes.{integer_at}
 use Rattle.wide.specs.Text.{integer_text}
 use Rattle.records.specs.Records.{head_len, payload}
 use Rattle.table.specs.Kinds.{integer_len, list_len}
 use Rattle.table.specs.declared.Record.{Record}
-use Rattle.table.specs.declared.Record.TheVariants.{Symbol, Integer, Binding, List as ListOf, Bad}
+use Rattle.table.specs.declared.Record.TheVariants.{Symbol, Integer, Binding, List as ListOf}
 use Rattle.table.specs.Records.{record_at}
 use Rattle.printer.specs.Layout.{Wrapping, Wrap, SingleLine, bytes, break_column, nl}
 use Rattle.printer.specs.declared.cost.Tested.{Tested}
@@ -58,12 +59,12 @@ mode_of g = cond (g == single_margin) SingleLine Wrap
 
 -- ---- what is put
 
-abbrev pub node_put : List ℕ → ℕ → Record → List ℕ
-node_put t at (Symbol len) = payload t at len
-node_put t at Integer = integer_text (integer_at t (at + head_len))
-node_put t at (Binding len) = payload t at len
-node_put t at (ListOf n) = 40 ∷ []
-node_put t at (Bad n) = []
+abbrev pub node_put : List ℕ → ℕ → CodeResult Record Fault → List ℕ
+node_put t at (Ok (Symbol len)) = payload t at len
+node_put t at (Ok Integer) = integer_text (integer_at t (at + head_len))
+node_put t at (Ok (Binding len)) = payload t at len
+node_put t at (Ok (ListOf n)) = 40 ∷ []
+node_put t at (Err f) = []
 
 abbrev pub gap_put : Wrapping → ℕ → List ℕ
 gap_put SingleLine g = 32 ∷ []
@@ -87,17 +88,7 @@ put_of t c = phase_put t c c.phase
 
 -- of a cursor all but its phase, its place and what is left of the line; of the next put nothing is given
 abbrev pub moved : Cursor → Phase → ℕ → ℕ → Cursor
-moved c f p l = record {
-  phase = f;
-  at = p;
-  depth = c.depth;
-  due = c.due;
-  looked = c.looked;
-  margin = c.margin;
-  left = l;
-  indent = c.indent;
-  given = 0;
-}
+moved c f p l = record c { phase = f; at = p; left = l; given = 0 }
 
 -- after a tree: its LF, the gap before the next item, or the end of the list
 abbrev pub close_phase : Wrapping → Phase
@@ -134,7 +125,7 @@ held_margin x = x / 4294967296 % 256
 
 -- behind the `(` of a list of n items that was tested
 abbrev pub opened : Cursor → ℕ → Tested → Cursor
-opened c n x = record {
+opened c n x = record c {
   phase = cond (n == 0) Close Node;
   at = c.at + list_len;
   depth = c.depth + 1;
@@ -142,7 +133,6 @@ opened c n x = record {
   looked = plus c.looked x.looked;
   margin = margin_for x.fits c.indent;
   left = c.left - 1;
-  indent = c.indent;
   given = 0;
 }
 
@@ -157,26 +147,16 @@ list_next t w s n =
 abbrev pub at_cursor : State → Cursor → State
 at_cursor s c = state c s.stack
 
-abbrev pub node_next : List ℕ → ℕ → State → Record → State
-node_next t w s (Symbol len) = at_cursor s (past s.cursor (s.cursor.at + len) (s.cursor.left - (len - head_len)))
-node_next t w s Integer = at_cursor s (past s.cursor (s.cursor.at + integer_len) (s.cursor.left - length (integer_text (integer_at t (s.cursor.at + head_len)))))
-node_next t w s (Binding len) = at_cursor s (moved s.cursor Sign (s.cursor.at + len) (s.cursor.left - (len - head_len)))
-node_next t w s (ListOf n) = list_next t w s n
-node_next t w s (Bad n) = at_cursor s (moved s.cursor Done s.cursor.at s.cursor.left)
+abbrev pub node_next : List ℕ → ℕ → State → CodeResult Record Fault → State
+node_next t w s (Ok (Symbol len)) = at_cursor s (past s.cursor (s.cursor.at + len) (s.cursor.left - (len - head_len)))
+node_next t w s (Ok Integer) = at_cursor s (past s.cursor (s.cursor.at + integer_len) (s.cursor.left - length (integer_text (integer_at t (s.cursor.at + head_len)))))
+node_next t w s (Ok (Binding len)) = at_cursor s (moved s.cursor Sign (s.cursor.at + len) (s.cursor.left - (len - head_len)))
+node_next t w s (Ok (ListOf n)) = list_next t w s n
+node_next t w s (Err f) = at_cursor s (moved s.cursor Done s.cursor.at s.cursor.left)
 
 -- an item fewer is due; on a new line the indent is the list's and one more
 abbrev pub taken : Cursor → ℕ → ℕ → Cursor
-taken c l i = record {
-  phase = Node;
-  at = c.at;
-  depth = c.depth;
-  due = c.due - 1;
-  looked = c.looked;
-  margin = c.margin;
-  left = l;
-  indent = i;
-  given = 0;
-}
+taken c l i = record c { phase = Node; due = c.due - 1; left = l; indent = i; given = 0 }
 
 abbrev pub gap_for : Cursor → ℕ → Wrapping → Cursor
 gap_for c w SingleLine = taken c (c.left - 1) c.indent
@@ -187,31 +167,17 @@ gap_next c w = gap_for c w (mode_of c.margin)
 
 -- the list around the innermost comes back from the stack
 abbrev pub popped : Cursor → List ℕ → Cursor
-popped c s = record {
+popped c s = record c {
   phase = Close;
-  at = c.at;
   depth = c.depth - 1;
   due = held_due (slice_index s (c.depth - 1));
-  looked = c.looked;
   margin = held_margin (slice_index s (c.depth - 1));
-  left = c.left;
-  indent = c.indent;
   given = 0;
 }
 
 -- each tree begins at column 0 and indent 0
 abbrev pub begin : Cursor → ℕ → Cursor
-begin c w = record {
-  phase = Node;
-  at = c.at;
-  depth = c.depth;
-  due = c.due;
-  looked = c.looked;
-  margin = c.margin;
-  left = leaves w 0;
-  indent = 0;
-  given = 0;
-}
+begin c w = record c { phase = Node; left = leaves w 0; indent = 0; given = 0 }
 
 abbrev pub phase_next : List ℕ → ℕ → State → Phase → State
 phase_next t w s Fresh = s
@@ -229,17 +195,7 @@ next_of t w s = phase_next t w s s.cursor.phase
 
 -- g bytes of the next put are given
 abbrev pub regiven : Cursor → ℕ → Cursor
-regiven c g = record {
-  phase = c.phase;
-  at = c.at;
-  depth = c.depth;
-  due = c.due;
-  looked = c.looked;
-  margin = c.margin;
-  left = c.left;
-  indent = c.indent;
-  given = g;
-}
+regiven c g = record c { given = g }
 
 -- ---- where it begins
 
@@ -275,3 +231,28 @@ start_cursor n w = record {
 
 abbrev pub started : List ℕ → ℕ → State → State
 started t w s = at_cursor s (start_cursor (length t) w)
+
+-- ---- a phase in a state of words: its number, and the phase of any number
+
+abbrev pub phase_word : Phase → ℕ
+phase_word Fresh = 0
+phase_word Node = 1
+phase_word Sign = 2
+phase_word Gap = 3
+phase_word Back = 4
+phase_word Close = 5
+phase_word Line = 6
+phase_word Between = 7
+phase_word Done = 8
+
+-- one past the last is the last
+unfoldable pub phase_in : ℕ → Phase
+phase_in k =
+    cond (eqb k 0) Fresh
+    (cond (eqb k 1) Node
+    (cond (eqb k 2) Sign
+    (cond (eqb k 3) Gap
+    (cond (eqb k 4) Back
+    (cond (eqb k 5) Close
+    (cond (eqb k 6) Line
+    (cond (eqb k 7) Between Done)))))))

@@ -1,6 +1,5 @@
 // Puts into a window: from a place of the put on, as much as there is room for.
-ghost use Rattle.std.specs.Prelude.{◌≡◌, ◌+◌, ◌≤◌, true, [], ◌∷◌, length, take, drop, if◌then◌else◌, nat_eq};
-ghost use Rattle.lists.specs.Over.{over};
+ghost use Rattle.std.specs.Prelude.{◌≡◌, ◌+◌, ◌≤◌, ◌<◌, ◌^◌, [], ◌∷◌, length};
 ghost use Rattle.wide.specs.Bytes.{integer_at};
 ghost use Rattle.wide.specs.Text.{integer_text};
 ghost use Rattle.records.specs.Records.{head_len, payload};
@@ -8,111 +7,62 @@ ghost use Rattle.table.specs.Kinds.{integer_len};
 ghost use Rattle.table.specs.Records.{record_at};
 ghost use Rattle.printer.specs.Layout.{bytes, nl};
 ghost use Rattle.windows.specs.Machine.{node_put, gap_put, mode_of, put_of};
-ghost use Rattle.windows.specs.PrivateGiving.{Given};
+ghost use Rattle.windows.specs.PrivateGiving.{part_of, Given};
 
-use crate::{Cursor, Phase};
+use crate::{Cursor, Phase, SINGLE_LINE};
 use table::Record;
 
-// The bytes given, whether nothing is left of the put, and if something is, how much of the put is given by now.
-#[derive(Clone, Copy)]
+// The bytes given, and if something is left of the put, the place in it where that begins.
+#[derive(Clone, Copy, Debug, PartialEq, Eq)]
 pub struct Gave {
     pub n: usize,
-    pub whole: bool,
-    pub given: usize,
+    pub left: Option<usize>,
 }
 
-fn all(n: usize) -> Gave
-    ensures { result ≡ record { n = n; whole = true; given = 0 } }
+// Of the `rest` bytes that a put has from the place `from` on, as many as a room holds.
+fn part(rest: usize, from: usize, room: usize) -> Gave
+    requires { from + rest < 2 ^ 64 }
+    ensures { result ≡ part_of rest from room }
 {
+    let n = rest.min(room);
     Gave {
         n,
-        whole: true,
-        given: 0,
+        left: (n < rest).then_some(from + n),
     }
 }
 
+// `from` and the window stay two parameters here and below: what a call writes to a window that a struct holds is not known to the check.
 fn give(put: &[u8], from: usize, out: &mut [u8]) -> Gave
     ensures { Given put.now from out.old out.new result }
 {
-    let n = put.len();
-    if n <= from {
-        return all(0);
-    }
-    let left = n - from;
-    let room = out.len();
-    if left <= room {
-        lists::put(&put[from..], out);
-        return all(left);
-    }
-    let end = from + room;
-    lists::put(&put[from..end], out);
-    Gave {
-        n: room,
-        whole: false,
-        given: end,
-    }
+    let rest = &put[from.min(put.len())..];
+    let gave = part(rest.len(), from, out.len());
+    lists::put(&rest[..gave.n], out);
+    gave
 }
 
-// A put of one byte.
+// A put of one byte. By `give` each would be a call (tried: 5 instructions more an output byte through windows of 512 bytes, which may take 1.7 times an ordinary print's).
 fn give_byte(b: u8, from: usize, out: &mut [u8]) -> Gave
     ensures { Given (b ∷ []) from out.old out.new result }
 {
-    if 0 < from {
-        return all(0);
+    let gave = part(1usize.saturating_sub(from), from, out.len());
+    if 0 < gave.n {
+        out[0] = b;
     }
-    if out.len() == 0 {
-        return Gave {
-            n: 0,
-            whole: false,
-            given: 0,
-        };
-    }
-    out[0] = b;
-    all(1)
+    gave
 }
 
-// The byte at i of a line break: LF, then spaces.
-fn break_byte(i: usize) -> u8
-    ensures { result ≡ (if nat_eq i 0 then 10 else 32) }
-{
-    if i == 0 {
-        return b'\n';
-    }
-    b' '
-}
-
-// k bytes of a line break, from the place `from` on.
-fn break_into(indent: u8, from: usize, k: usize, out: &mut [u8])
-    requires { (k ≤ length out.old) × (from + k ≤ length (bytes (nl indent))) }
-    ensures { out.new ≡ over (take k (drop from (bytes (nl indent)))) out.old }
-{
-    let mut i = 0;
-    while i < k {
-        out[i] = break_byte(from + i);
-        i += 1;
-    }
-}
-
-// A line break and 4 spaces for each indent.
+// A line break: LF and 4 spaces for each indent.
 fn give_break(indent: u8, from: usize, out: &mut [u8]) -> Gave
     ensures { Given (bytes (nl indent)) from out.old out.new result }
 {
-    let n = 4 * (indent as usize) + 1;
-    if n <= from {
-        return all(0);
+    let rest = (4 * indent as usize + 1).saturating_sub(from);
+    let given = part(rest, from, out.len());
+    out[..given.n].fill(b' ');
+    if from == 0 && 0 < given.n {
+        out[0] = b'\n';
     }
-    let left = n - from;
-    let room = out.len();
-    if left <= room {
-        break_into(indent, from, left, out);
-        return all(left);
-    }
-    break_into(indent, from, room, out);
-    Gave {
-        n: room,
-        whole: false,
-        given: from + room,
-    }
+    given
 }
 
 fn give_integer(t: &[u8], at: usize, from: usize, out: &mut [u8]) -> Gave
@@ -129,49 +79,46 @@ fn give_name(t: &[u8], at: usize, len: usize, from: usize, out: &mut [u8]) -> Ga
     requires { (head_len ≤ len) × (at + len ≤ length t.now) }
     ensures { Given (payload t.now at len) from out.old out.new result }
 {
-    let start = at + records::HEAD;
-    let end = at + len;
-    give(&t[start..end], from, out)
+    give(&t[at + records::HEAD..at + len], from, out)
 }
 
 // The bytes of the record at `at`.
 fn give_node(t: &[u8], at: usize, from: usize, out: &mut [u8]) -> Gave
     ensures { Given (node_put t.now at (record_at t.now at)) from out.old out.new result }
 {
-    let node = table::record_at(t, at);
-    match node {
-        Record::Bad(_) => give(b"", from, out),
-        Record::Symbol(len) => give_name(t, at, len, from, out),
-        Record::Integer => give_integer(t, at, from, out),
-        Record::Binding(len) => give_name(t, at, len, from, out),
-        Record::List(_) => give_byte(b'(', from, out),
+    // A symbol and a binding have an arm each: what a pattern of both takes has no name in a proof.
+    match table::record_at(t, at) {
+        Ok(Record::Symbol(len)) => give_name(t, at, len, from, out),
+        Ok(Record::Binding(len)) => give_name(t, at, len, from, out),
+        Ok(Record::Integer) => give_integer(t, at, from, out),
+        Ok(Record::List(_)) => give_byte(b'(', from, out),
+        Err(_) => give(b"", from, out),
     }
 }
 
-fn give_gap(g: u8, from: usize, out: &mut [u8]) -> Gave
-    ensures { Given (gap_put (mode_of g) g) from out.old out.new result }
+fn give_gap(margin: u8, from: usize, out: &mut [u8]) -> Gave
+    ensures { Given (gap_put (mode_of margin) margin) from out.old out.new result }
 {
-    if g == 255 {
-        return give_byte(b' ', from, out);
+    if margin == SINGLE_LINE {
+        give_byte(b' ', from, out)
+    } else {
+        give_break(margin + 1, from, out)
     }
-    give_break(g + 1, from, out)
 }
 
 // What is left of the next put.
+#[tactic(auto, unfolding(crate::specs::Machine::put_of))]
 pub fn put(t: &[u8], c: Cursor, out: &mut [u8]) -> Gave
     ensures { Given (put_of t.now c) c.given out.old out.new result }
 {
-    let phase = c.phase;
     let from = c.given;
-    match phase {
+    match c.phase {
         Phase::Node => give_node(t, c.at, from, out),
         Phase::Sign => give(b" @ ", from, out),
         Phase::Gap => give_gap(c.margin, from, out),
         Phase::Back => give_break(c.margin, from, out),
         Phase::Close => give_byte(b')', from, out),
-        Phase::Line => give_byte(b'\n', from, out),
-        Phase::Between => give_byte(b'\n', from, out),
-        Phase::Fresh => give(b"", from, out),
-        Phase::Done => give(b"", from, out),
+        Phase::Line | Phase::Between => give_byte(b'\n', from, out),
+        Phase::Fresh | Phase::Done => give(b"", from, out),
     }
 }

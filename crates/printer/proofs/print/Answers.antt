@@ -1,22 +1,20 @@
 -- `printer::print`: measured, and then written where the room is enough.
-use Rattle.table.specs.Decoding.{table_of}
-use Rattle.printer.proofs.PageWriting.{print_right, print_no, print_short, print_text}
-use borrow.Author.Rules.{rules}
-use borrow.Author.Tests.{not-true, not-false, leb-true, leb-false}
+use Rattle.std.proofs.lemmas.Result.{err_from_is_err_and}
+use Rattle.printer.proofs.PageWriting.{print_no, print_short, print_text}
+use Rattle.table.proofs.Steps.{too_long_lem}
+use Rattle.printer.proofs.MeasuringWalk.{summed_no}
 use Rattle.printer.proofs.print.Goals as goal
 
-pub returns-then-out-n : goal.returns-then-out-n
-returns-then-out-n c =
-    let s = c.args in
-    let k = print_right (table_of s.table.now) _ _ _ c.measure.ensures c.in-Bytes.is in
-    print_short s.table.now _ s.width s.out.now k.0 k.1 (search (rules, not-true, leb-false))
+pub returns-then-table-gt-TABLE_LIMIT : goal.returns-then-table-gt-TABLE_LIMIT
+returns-then-table-gt-TABLE_LIMIT c = print_no _ _ c.args.out.now _ (summed_no _ _ _ _ _ (too_long_lem _ c.if-table-gt-TABLE_LIMIT.true) c.at.ensures)
 
-pub returns-in-Refused : goal.returns-in-Refused
-returns-in-Refused c =
-    print_no _ _ c.args.out.now _ _ c.measure.ensures c.in-Refused.is
+pub returns-in_err-len : goal.returns-in_err-len
+returns-in_err-len c =
+    let p = err_from_is_err_and c.from_residual.result c.from_residual.ensures.1 in
+    rw (p.1, p.2) (print_no _ _ c.args.out.now _ c.in_err-len.ensures)
 
-pub returns-else-out-n : goal.returns-else-out-n
-returns-else-out-n c =
-    let s = c.args in
-    let k = print_right (table_of s.table.now) _ _ _ c.measure.ensures c.in-Bytes.is in
-    print_text s.table.now _ s.width s.out.now k.0 k.1 (search (rules, not-false, leb-true)) _ _ c.print_trees-looked.ensures
+pub returns-then-out-len : goal.returns-then-out-len
+returns-then-out-len c = print_short _ _ _ c.args.out.now c.in_ok-len.ensures c.if-out-len.true _ c.at-then-out-len.ensures
+
+pub returns : goal.returns
+returns c = print_text _ _ _ c.args.out.now c.in_ok-len.ensures c.if-out-len.false _ _ c.print_trees-looked.ensures

@@ -1,14 +1,13 @@
 -- `windows::run`: turn after turn; what is written and what is left to run are the run.
 use Rattle.std.proofs.Common.{rules}
-use Rattle.windows.specs.Machine.{state}
 use Rattle.windows.proofs.Running.{running_end, running_stop, running_step}
 use Rattle.windows.proofs.run.Goals as goal
 
-pub returns-then-is_done-w : goal.returns-then-is_done-w
-returns-then-is_done-w c = let a = c.args in let l = c.loop-i in running_stop a.t.now a.width (state a.from a.stack.now) a.out.now l.out l.c l.stack l.w l.i l.invariant.2 c.loop-i-test.true _ c.is_done.ensures c.if-is_done-w.true
+pub returns-then-eq : goal.returns-then-eq
+returns-then-eq c = running_stop _ _ _ _ _ _ _ _ _ c.loop.invariant.1 c.loop-test.true _ c.eq.ensures c.then-eq.either
 
-pub loop-i-preserved : goal.loop-i-preserved
-loop-i-preserved c = let a = c.args in let l = c.loop-i in (search (rules, l.invariant.0), l.invariant.1, running_step a.t.now a.width (state a.from a.stack.now) a.out.now l.out l.c l.stack l.w l.i l.invariant.2 c.loop-i-test.true _ c.is_done.ensures c.if-is_done-w.false c.turn-r.result _ c.turn-r.new.out c.turn-r.ensures)
+pub loop-preserved : goal.loop-preserved
+loop-preserved c = (search (rules, c.loop.invariant.0), running_step _ _ _ _ _ _ _ _ _ c.loop.invariant.1 c.loop-test.true _ c.eq.ensures c.if-eq.false c.if-ran-n.false _ _ _ c.turn-more.ensures)
 
-pub returns : goal.returns
-returns c = let a = c.args in let l = c.loop-i in running_end a.t.now a.width (state a.from a.stack.now) a.out.now l.out l.c l.stack l.w l.i l.invariant.2 c.loop-i-test.false
+pub returns-after-loop : goal.returns-after-loop
+returns-after-loop c = running_end _ _ _ _ _ _ _ _ _ c.loop.invariant.1 c.loop-test.false

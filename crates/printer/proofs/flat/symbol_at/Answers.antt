@@ -2,8 +2,8 @@
 use Rattle.printer.proofs.CheckedRecords.{symbol_yes, symbol_no}
 use Rattle.printer.proofs.flat.symbol_at.Goals as goal
 
-pub returns-then-kind_at-eq-SYMBOL : goal.returns-then-kind_at-eq-SYMBOL
-returns-then-kind_at-eq-SYMBOL c = symbol_yes _ _ _ c.kind_at.ensures c.if-kind_at-eq-SYMBOL.true _ c.len_at.ensures
+pub returns-then-kind_at : goal.returns-then-kind_at
+returns-then-kind_at c = symbol_yes _ _ _ c.kind_at.ensures c.if-kind_at.true _ c.len_at.ensures
 
 pub returns : goal.returns
-returns c = symbol_no _ _ _ c.kind_at.ensures c.if-kind_at-eq-SYMBOL.false
+returns c = symbol_no _ _ _ c.kind_at.ensures c.if-kind_at.false

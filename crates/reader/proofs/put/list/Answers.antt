@@ -1,50 +1,40 @@
--- `reader::put::list`: the head, then the count and the cost, each in the rest of the room.
+-- `reader::put::list`: the count, then the cost, in a payload of their own.
+use mathlib.Core.Path.{◌≡◌, refl, ap, sym, ◌∙◌}
+use mathlib.Core.List.{List, [], ◌++◌, append-nil}
+use Prim.Native.Nat.{ℕ}
 use native.Mathlib.Omega.{arith}
+use lib.ListN.{length, take, drop, length-append, drop_of_length-le}
+use lib.Seq.{take_at, drop_at, take_all}
 use borrow.Rule.Slice.PartMut.{put_mid}
-use lib.ListN.{length, take, drop}
-use Prim.Native.Nat.{ℕ, ◌+◌, ◌-◌, ◌≤◌}
-use mathlib.Core.List.{List, ◌++◌, append_assoc}
-use mathlib.Core.Path.{◌≡◌, ap, sym, ◌∙◌}
-use Rattle.lists.specs.Over.{over, fitted}
-use Rattle.lists.proofs.Blocks.{fitted_over, fits_in, no_room}
-use Rattle.lists.proofs.Writing.{Wrote, wrote_lent, wrote_length, part_length}
+use Rattle.lists.specs.Over.{fitted}
 use Rattle.wide.specs.Bytes.{le}
 use Rattle.wide.proofs.Numbers.{le_length}
-use Rattle.records.specs.Records.{head_len, head_of, record_of}
-use Rattle.records.proofs.Heads.{head_length, length_record}
-use Rattle.table.specs.Kinds.{list_kind, list_len}
-use Rattle.table.proofs.Costs.{list_size}
+use Rattle.reader.proofs.Behind.{fitted_just}
 use Rattle.reader.proofs.put.list.Goals as goal
 
--- four bytes more, into the rest of the room
-then-four : (o b₀ b ys : List ℕ) (w n : ℕ) → Wrote o b₀ b w → w + 4 ≤ length b₀ → ys ≡ fitted (le 4 n) (take (length b - w) (drop w b))
-    → Wrote (o ++ le 4 n) b₀ (put_mid w (length b - w) b ys) (w + 4)
-then-four o b₀ b ys w n h l e =
-    let k = wrote_length h in
-    wrote_lent h (le 4 n) ys 4 (le_length 4 n) l
-    (e ∙ fitted_over (le 4 n) (take (length b - w) (drop w b)) (rw (part_length w b) (omega (arith, le_length 4 n))))
+payload_is : (n v : ℕ) (z x y : List ℕ) → length z ≡ 4 → x ≡ fitted (le 4 n) z → y ≡ fitted (le 4 v) (take 4 (drop 4 (x ++ z))) → put_mid 4 4 (x ++ z) y ≡ le 4 n ++ le 4 v
+payload_is n v z x y e ex ey =
+    let ex' : x ≡ le 4 n = ex ∙ fitted_just (le 4 n) z (le_length 4 n ∙ sym e) in
+    let lx : length x ≡ 4 = ap length ex' ∙ le_length 4 n in
+    let back : drop 4 (x ++ z) ≡ z = drop_at x z 4 lx in
+    let past : drop 4 (drop 4 (x ++ z)) ≡ [] = ap (drop 4) back ∙ drop_of_length-le z {i = 4} (omega arith) in
+    let ey' : y ≡ le 4 v = ey ∙ ap (λ (r : List ℕ). fitted (le 4 v) (take 4 r)) back ∙ ap (fitted (le 4 v)) (take_all 4 z (omega arith)) ∙ fitted_just (le 4 v) z (le_length 4 v ∙ sym e) in
+    rw (take_at x z 4 lx, past, append-nil y, ex', ey') refl
 
-as-record : (n v : ℕ) (b₀ b' : List ℕ) (w : ℕ) → Wrote ((head_of list_kind list_len ++ le 4 n) ++ le 4 v) b₀ b' w → b' ≡ over (record_of list_kind (le 4 n ++ le 4 v)) b₀
-unfolding record_of
-as-record n v b₀ b' w h =
-    let e : length (le 4 n ++ le 4 v) + head_len ≡ list_len = sym (length_record list_kind (le 4 n ++ le 4 v)) ∙ list_size n v in
-    h.holds ∙ ap (λ (o : List ℕ). over o b₀) (append_assoc (head_of list_kind list_len) (le 4 n) (le 4 v))
-    ∙ ap (λ (i : ℕ). over (head_of list_kind i ++ (le 4 n ++ le 4 v)) b₀) (sym e)
+payload_length : (n v : ℕ) → length (le 4 n ++ le 4 v) ≡ 8
+payload_length n v = length-append (le 4 n) (le 4 v) ∙ omega (arith, le_length 4 n, le_length 4 v)
 
-pub returns-then-buf-lt-LIST_LEN : goal.returns-then-buf-lt-LIST_LEN
-returns-then-buf-lt-LIST_LEN c =
+pub slice_bounds-placed-end : goal.slice_bounds-placed-end
+slice_bounds-placed-end c =
     let a = c.args in
-    no_room (record_of list_kind (le 4 a.n ++ le 4 a.cost)) _ (omega (arith, list_size a.n a.cost))
+    sym (ap length (payload_is a.n a.cost _ _ _ refl c.put_u32.ensures c.put_u32-2.ensures) ∙ payload_length a.n a.cost)
+
+pub placed-requires : goal.placed-requires
+placed-requires c =
+    let a = c.args in
+    rw (payload_is a.n a.cost _ _ _ refl c.put_u32.ensures c.put_u32-2.ensures) (omega (arith, payload_length a.n a.cost), omega arith)
 
 pub returns : goal.returns
 returns c =
     let a = c.args in
-    let l : list_len ≤ length a.buf.now = omega arith in
-    let h : Wrote (head_of list_kind list_len) a.buf.now _ head_len = record {
-      size = head_length list_kind list_len;
-      within = omega arith;
-      holds = c.put_head.ensures ∙ fitted_over (head_of list_kind list_len) a.buf.now (omega (arith, head_length list_kind list_len));
-    } in
-    let h₁ = then-four (head_of list_kind list_len) a.buf.now _ _ head_len a.n h (omega arith) c.put_u32.ensures in
-    let h₂ = then-four (head_of list_kind list_len ++ le 4 a.n) a.buf.now _ _ (head_len + 4) a.cost h₁ (omega arith) c.put_u32-2.ensures in
-    fits_in (record_of list_kind (le 4 a.n ++ le 4 a.cost)) _ _ (omega (arith, list_size a.n a.cost)) (as-record a.n a.cost a.buf.now _ _ h₂)
+    rw (c.placed.ensures.1, payload_is a.n a.cost _ _ _ refl c.put_u32.ensures c.put_u32-2.ensures) refl
