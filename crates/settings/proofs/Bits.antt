@@ -3,14 +3,14 @@ use Prim.Native.Nat.{ℕ, zero, suc, ◌+◌, ◌-◌, ◌*◌, ◌/◌, ◌%◌
 use mathlib.Core.Path.{◌≡◌, refl, sym, ap, subst, ◌∙◌}
 use mathlib.Core.Logic.{inl, inr}
 use mathlib.Core.Bool.{Bool, true, false, cond, ◌&&◌, ◌||◌}
-use mathlib.Core.List.{List, ◌∷◌}
+use mathlib.Core.List.{List, [], ◌∷◌}
 use native.Mathlib.Omega.{arith}
 use lib.Dec.{eqb, leb, ltb}
-use lib.ListN.{length, get_or, set}
+use lib.ListN.{length, get_or, set, replicate}
 use lib.Seq.{get_or-set_same, get_or-set_other}
 use lib.Pow.{pow-add, pow-lt, shl_exact, shl-shr}
 use lib.Bits.{bit_or, or_shr, or_mod, or_zero_r, shifted_even}
-use native.Mathlib.Nat.{div-eq_of_lt, one-mul}
+use native.Mathlib.Nat.{div-eq_of_lt, one-mul, zero-div}
 use borrow.Author.Tests.{lt-ltb, le-ltb, ltb-true, ltb-false, eqb-true, eqb-false, leb-true}
 use Rattle.settings.specs.Kinds.{edition_kind, width_kind, style_kind, first_skipped, value_fits}
 use Rattle.settings.specs.Files.{among}
@@ -109,13 +109,22 @@ fits_marked kind n h = by (eqb kind edition_kind) (eqb kind width_kind) (eqb kin
 
 -- ---- what the words tell
 
-told_true : (b : Bool) → told b ≡ 1 → b ≡ true
-told_true true e = refl
-told_true false e = absurd (omega (arith, e))
+told_one : (b : Bool) → eqb (told b) 1 ≡ b
+told_one true = refl
+told_one false = refl
 
-told_false : (b : Bool) → (told b ≡ 1 → ⊥) → b ≡ false
-told_false true e = absurd (e refl)
-told_false false e = refl
+none_set : (n i : ℕ) → get_or {A = ℕ} (replicate n 0) i 0 ≡ 0
+none_set zero i = refl
+none_set (suc n) zero = refl
+none_set (suc n) (suc i) = none_set n i
+
+no_bit : (s : ℕ) → 0 / 2 ^ s % 2 ≡ 0
+no_bit s = ap (λ (x : ℕ). x % 2) (zero-div (2 ^ s))
+
+-- words of zeros tell no kind
+pub none_seen : Tells (replicate 513 0) []
+unfolding among
+none_seen k m = rw (none_set 513 (slot k / 64)) (no_bit (slot k % 64))
 
 -- a kind, and one more that was seen
 seen_more : (k kind : ℕ) (before : List ℕ) (P : Bool → Type 0) → (k ≡ kind → P true) → ((k ≡ kind → ⊥) → P (among k before)) → P (among k (kind ∷ before))
@@ -135,20 +144,14 @@ all_64 ws s =
     let h : 1 < 2 ^ 1 = omega arith in
     ap (λ (p : ℕ). set ws (s / 64) (bit_or (get_or ws (s / 64) 0) p)) (shl_exact 1 (s % 64) 64 h (omega arith))
 
-module _ (ws before : List ℕ) (kind s : ℕ) (m : Marked kind) (es : s ≡ slot kind) (t : Tells ws before) where
-  pub seen_before : bit ws s ≡ 1 → (true ≡ among kind before) × Tells ws (kind ∷ before)
-  seen_before e' =
-      let e : bit ws (slot kind) ≡ 1 = ap (bit ws) (sym es) ∙ e' in (
-        sym (told_true (among kind before) (sym (t kind m) ∙ e)),
-        λ k mk. seen_more k kind before (λ (b : Bool). bit ws (slot k) ≡ told b) (λ q. ap (λ (j : ℕ). bit ws (slot j)) q ∙ e) (λ _. t k mk),
-      )
-
-  pub seen_now : length ws ≡ 513 → (bit ws s ≡ 1 → ⊥) → (false ≡ among kind before) × Tells (marking64 ws s) (kind ∷ before)
-  seen_now l e =
-      let h : s / 64 < length ws = rw es (omega (arith, slot_lt kind m, l)) in (
-        sym (told_false (among kind before) (λ q. e (ap (bit ws) es ∙ t kind m ∙ q))),
-        subst (λ (w : List ℕ). Tells w (kind ∷ before)) (sym (all_64 ws s)) (λ k mk.
-            seen_more k kind before (λ (b : Bool). bit (marking ws s) (slot k) ≡ told b)
-            (λ q. ap (bit (marking ws s)) (ap slot q ∙ sym es) ∙ marked_own ws s h)
-            (λ ne. marked_other ws s (slot k) h (λ q. ne (slot_one k kind mk m (q ∙ es))) ∙ t k mk)),
-      )
+-- the bit says whether the kind was seen, and once it is set the words tell the kind too
+pub seen : (ws before : List ℕ) (kind s : ℕ) → Marked kind → s ≡ slot kind → length ws ≡ 513 → Tells ws before
+    → (eqb (bit ws s) 1 ≡ among kind before) × Tells (marking64 ws s) (kind ∷ before)
+seen ws before kind s m es l t =
+    let h : s / 64 < length ws = rw es (omega (arith, slot_lt kind m, l)) in (
+      ap (λ (b : ℕ). eqb b 1) (ap (bit ws) es ∙ t kind m) ∙ told_one (among kind before),
+      subst (λ (w : List ℕ). Tells w (kind ∷ before)) (sym (all_64 ws s)) (λ k mk.
+          seen_more k kind before (λ (b : Bool). bit (marking ws s) (slot k) ≡ told b)
+          (λ q. ap (bit (marking ws s)) (ap slot q ∙ sym es) ∙ marked_own ws s h)
+          (λ ne. marked_other ws s (slot k) h (λ q. ne (slot_one k kind mk m (q ∙ es))) ∙ t k mk)),
+    )

@@ -1,4 +1,5 @@
 -- Where a refused file is at fault: THEOREM fault_placed. Assumes nothing.
+use Rattle.std.specs.Prelude.{Option, Some, None}
 use Prim.Native.Nat.{ℕ, zero, suc, ◌+◌, ◌-◌, ◌≤◌, ◌<◌}
 use mathlib.Core.Path.{◌≡◌, refl, ap, subst, ◌∙◌}
 use mathlib.Core.Bool.{true, false}
@@ -14,8 +15,7 @@ use Rattle.refusals.specs.Result.{Result, ok, refused, and_then}
 use Rattle.lists.proofs.Choice.{pick}
 use Rattle.wide.specs.Bytes.{Bytes}
 use Rattle.records.specs.declared.Head.{Head}
-use Rattle.records.specs.declared.Head.TheVariants.{Cut, Is}
-use Rattle.records.specs.Records.{head_len, record_of, payload, head_at}
+use Rattle.records.specs.Records.{head, head_len, record_of, payload, head_at}
 use Rattle.records.proofs.Heads.{HeadIn, head_in}
 use Rattle.settings.specs.Kinds.{value_fits}
 use Rattle.settings.specs.Files.{Setting, setting_is, file_of, among, GoodFrom, of_head, settings_at, is_edition, settings_of}
@@ -41,7 +41,7 @@ bad_here f before at h e =
     let z : at - at ≡ 0 = omega arith in
     (refl, record { front = []; from = omega arith; within = h; bytes = rw z refl; good = tt; bad = e })
 
-module _ (f before : List ℕ) (at kind len : ℕ) (hb : Bytes f) (h : HeadIn f at (Is kind len)) (room : at + len ≤ length f) where
+module _ (f before : List ℕ) (at kind len : ℕ) (hb : Bytes f) (h : HeadIn f at (Some (head kind len))) (room : at + len ≤ length f) where
   bad_more : value_fits kind (len - head_len) ≡ true → among kind before ≡ false → (r : Result (List Setting)) → Placed f (kind ∷ before) (at + len) r
       → Placed f before at (and_then r (λ ys. ok (setting_is kind (payload f at len) ∷ ys)))
   unfolding file_of
@@ -64,11 +64,13 @@ module _ (f before : List ℕ) (at kind len : ℕ) (hb : Bytes f) (h : HeadIn f 
       )
 
 placed_head : (f before : List ℕ) (at : ℕ) (rest : List ℕ → ℕ → Result (List Setting)) → Bytes f → at < length f
-    → ((before' : List ℕ) (at' : ℕ) → at' ≤ length f → at + head_len ≤ at' → Placed f before' at' (rest before' at')) → (x : Head) → head_at f at ≡ x → HeadIn f at x
+    → ((before' : List ℕ) (at' : ℕ) → at' ≤ length f → at + head_len ≤ at' → Placed f before' at' (rest before' at')) → (x : Option Head) → head_at f at ≡ x → HeadIn f at x
     → Placed f before at (of_head f before at x rest)
-placed_head f before at rest hb ha later Cut e h = bad_here f before at ha (rw e refl)
-placed_head f before at rest hb ha later (Is kind len) e h =
+placed_head f before at rest hb ha later None e h = bad_here f before at ha (rw e refl)
+placed_head f before at rest hb ha later (Some x) e h =
     let P : Result (List Setting) → Type 0 = Placed f before at in
+    let kind : ℕ = x.kind in
+    let len : ℕ = x.len in
     let room : at + len ≤ length f = omega (arith, h.2, h.3) in
     pick P (value_fits kind (len - head_len)) (λ fits.
     pick P (among kind before) (λ old. bad_here f before at ha (rw e (rw (fits, old) refl))) (λ new.

@@ -1,4 +1,5 @@
 -- A file is read exactly if it is good: THEOREMS good_sound, good_complete. Assumes nothing.
+use Rattle.std.specs.Prelude.{Option, Some, None}
 use Prim.Native.Nat.{ℕ, zero, suc, ◌+◌, ◌-◌, ◌^◌, ◌≤◌, ◌<◌}
 use mathlib.Core.Path.{◌≡◌, refl, ap, sym, subst, ◌∙◌}
 use mathlib.Core.Bool.{true}
@@ -12,7 +13,6 @@ use Rattle.refusals.specs.Result.{Result, ok, refused, and_then}
 use Rattle.lists.proofs.Choice.{pick, and_left, true_false}
 use Rattle.wide.specs.Bytes.{Bytes}
 use Rattle.records.specs.declared.Head.{Head}
-use Rattle.records.specs.declared.Head.TheVariants.{Cut, Is}
 use Rattle.records.specs.Records.{head_len, payload, head_at}
 use Rattle.records.proofs.Heads.{HeadIn, head_in, length_record, Stood, stood, stood_head, stood_payload}
 use Rattle.settings.specs.Kinds.{edition_kind, value_fits}
@@ -30,17 +30,17 @@ first_more : (f : List ℕ) (kind len : ℕ) → kind ≡ edition_kind → (r : 
 first_more f kind len e (ok ys) = e
 first_more f kind len e (refused n a) = tt
 
-first_head : (f : List ℕ) (rest : List ℕ → ℕ → Result (List Setting)) (x : Head) → is_edition x ≡ true → First (of_head f [] 0 x rest)
+first_head : (f : List ℕ) (rest : List ℕ → ℕ → Result (List Setting)) (x : Option Head) → is_edition x ≡ true → First (of_head f [] 0 x rest)
 unfolding among
-first_head f rest Cut e = true_false (sym e)
-first_head f rest (Is kind len) e =
-    pick First (value_fits kind (len - head_len))
-    (λ _. first_more f kind len (eqb-true kind edition_kind (and_left (eqb kind edition_kind) (eqb len 8) e)) (rest (kind ∷ []) (0 + len)))
+first_head f rest None e = true_false (sym e)
+first_head f rest (Some x) e =
+    pick First (value_fits x.kind (x.len - head_len))
+    (λ _. first_more f x.kind x.len (eqb-true x.kind edition_kind (and_left (eqb x.kind edition_kind) (eqb x.len 8) e)) (rest (x.kind ∷ []) (0 + x.len)))
     (λ _. tt)
 
-not_empty : (f : List ℕ) (x : Head) → HeadIn f 0 x → is_edition x ≡ true → 0 < length f
-not_empty f Cut h e = true_false (sym e)
-not_empty f (Is kind len) h e = omega (arith, h.2, h.3)
+not_empty : (f : List ℕ) (x : Option Head) → HeadIn f 0 x → is_edition x ≡ true → 0 < length f
+not_empty f None h e = true_false (sym e)
+not_empty f (Some x) h e = omega (arith, h.2, h.3)
 
 first : (n : ℕ) (f : List ℕ) → is_edition (head_at f 0) ≡ true → length f ≤ n → First (settings_at n f [] 0)
 unfolding settings_at

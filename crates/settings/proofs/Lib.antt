@@ -1,6 +1,7 @@
 pub mod Bits
 pub mod Joining
 pub mod Standing
+pub mod Numbering
 pub mod Walking
 pub mod Good
 pub mod Copies

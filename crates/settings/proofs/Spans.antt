@@ -1,40 +1,87 @@
 -- Where a value stands in one of two files, and what that says of its bytes. Assumes nothing.
-use Prim.Native.Nat.{ℕ, ◌+◌, ◌-◌, ◌≤◌}
+use Rattle.std.specs.Prelude.{Result as CodeResult, Ok, Err, Option, ok_or}
+use Rattle.std.specs.Option.{option_or}
+use Rattle.refusals.specs.declared.Refusal.{Refusal}
+use Prim.Native.Nat.{ℕ, ◌+◌, ◌≤◌}
 use mathlib.Core.Path.{◌≡◌, refl, sym, ap, subst, ◌∙◌}
 use mathlib.Core.Logic.{◌⊎◌, inl, inr}
 use mathlib.Core.Bool.{true}
-use mathlib.Core.List.{List, []}
+use mathlib.Core.List.{List}
 use native.Mathlib.Omega.{arith}
-use lib.ListN.{length, take, drop}
+use lib.ListN.{length, take, drop, length-take, length-drop}
 use borrow.Author.Tests.{eqb-true}
+use Rattle.refusals.specs.Numbers.{not_set}
 use Rattle.refusals.specs.Result.{Result, ok, refused}
 use Rattle.wide.specs.Bytes.{Bytes, number}
-use Rattle.settings.specs.Kinds.{value_fits}
+use Rattle.settings.specs.Kinds.{value_fits, kind_number}
 use Rattle.settings.specs.Files.{Setting, settings_of}
-use Rattle.settings.specs.LookUps.{Side, Project, House, Neither, Value, Held, absent, held, held_from, Sided, given, faulty, each_sided, checked, chosen, look_up, Span, span_in, number_set, bytes_in, part_at, part_of}
-use Rattle.settings.specs.declared.Part.{Part}
+use Rattle.settings.specs.LookUps.{Side, Project, House, Neither, Value, Held, absent, held, held_from, Sided, given, faulty, each_sided, checked, chosen, look_up, span_in, number_set, bytes_in, by_side, part_at, part_of}
+use Rattle.settings.specs.declared.Span.{Span}
+use Rattle.settings.specs.PrivateFinding.{found_at, found_in, on_side}
+use Rattle.settings.specs.declared.kinds.Kind.{Kind}
+use Rattle.settings.specs.declared.kinds.Kind.TheVariants.{Edition, Width}
+use Rattle.settings.specs.declared.Sided.{Sided as CodeSided}
 use Rattle.settings.proofs.Looking.{At, at_bytes, at_room, at_fits, project_bad, house_bad, in_project, in_house, in_neither}
 
 abbrev span_of : Value → Span
 span_of v = record { place = v.place; len = length v.bytes }
 
--- ---- what the code answers, by what was found
+-- ---- what the code answers, by what it found in the two files
 
-span_is : (v : Value) (p l : ℕ) → v.place ≡ p → length v.bytes ≡ l → ◌≡◌ {A = Span} (record { place = p; len = l }) (span_of v)
-span_is v p l e e' = rw (e, e') refl
+abbrev OneFound : Type 0
+OneFound = CodeResult (Option (CodeSided Span)) (CodeSided Refusal)
+
+abbrev pub neither : CodeSided Refusal
+neither = record { side = Neither; value = record { number = not_set; place = 0 } }
+
+abbrev answer_of : OneFound → OneFound → CodeResult (CodeSided Span) (CodeSided Refusal)
+answer_of (Err e) y = Err e
+answer_of (Ok x) (Err e) = Err e
+answer_of (Ok x) (Ok y) = ok_or (option_or x y) neither
 
 module _ (kind : ℕ) (p h : List ℕ) where
-  pub span_faulty : (s : Side) (n a : ℕ) → look_up kind p h ≡ faulty s n a → faulty s n a ≡ span_in kind p h
-  span_faulty s n a e = sym (ap (each_sided span_of) e)
+  abbrev own : OneFound
+  own = on_side Project (found_in kind (settings_of p))
 
-  pub span_project : (q l : ℕ) (a : At kind (settings_of p) q l) (hs : List Setting) → settings_of h ≡ ok hs → given Project (record { place = q; len = l }) ≡ span_in kind p h
-  span_project q l a hs e =
-      ap (given Project) (span_is a.value q l a.place_is a.len_is) ∙ sym (ap (each_sided span_of) (in_project kind p h a.settings hs a.good e a.value a.there))
+  abbrev other : OneFound
+  other = on_side House (found_in kind (settings_of h))
 
-  pub span_house : (q l : ℕ) (ps : List Setting) → settings_of p ≡ ok ps → held_from kind 0 ps ≡ absent → (a : At kind (settings_of h) q l)
-      → given House (record { place = q; len = l }) ≡ span_in kind p h
-  span_house q l ps e n a =
-      ap (given House) (span_is a.value q l a.place_is a.len_is) ∙ sym (ap (each_sided span_of) (in_house kind p h ps a.settings e a.good a.value n a.there))
+  answered : part_of (answer_of own other) ≡ span_in kind p h
+  unfolding look_up
+  answered = files (settings_of p) (settings_of h)
+    where
+      chosen_of : (x y : Held) → part_of (answer_of (on_side Project (Ok (found_at x))) (on_side House (Ok (found_at y)))) ≡ each_sided span_of (chosen x y)
+      chosen_of (held v) absent = refl
+      chosen_of (held v) (held w) = refl
+      chosen_of absent (held w) = refl
+      chosen_of absent absent = refl
+
+      files : (x y : Result (List Setting))
+          → part_of (answer_of (on_side Project (found_in kind x)) (on_side House (found_in kind y)))
+          ≡ each_sided span_of (checked Project x (λ ps. checked House y (λ hs. chosen (held_from kind 0 ps) (held_from kind 0 hs))))
+      files (refused n a) y = refl
+      files (ok ps) (refused n a) = left (held_from kind 0 ps)
+        where
+          left : (x : Held) → part_of (answer_of (on_side Project (Ok (found_at x))) (on_side House (Err (record { number = n; place = a })))) ≡ faulty House n a
+          left absent = refl
+          left (held v) = refl
+      files (ok ps) (ok hs) = chosen_of (held_from kind 0 ps) (held_from kind 0 hs)
+
+  module _ (x : OneFound) (own_is : x ≡ own) where
+    pub own_bad : (e : CodeSided Refusal) → x ≡ Err e → part_of (Err e) ≡ span_in kind p h
+    own_bad e q = subst (λ (r : OneFound). part_of (answer_of r other) ≡ span_in kind p h) (sym own_is ∙ q) answered
+
+    module _ (a : Option (CodeSided Span)) (good : x ≡ Ok a) (y : OneFound) (other_is : y ≡ other) where
+      rest : part_of (answer_of (Ok a) y) ≡ span_in kind p h
+      rest =
+          subst (λ (r : OneFound). part_of (answer_of r y) ≡ span_in kind p h) (sym own_is ∙ good)
+          (subst (λ (r : OneFound). part_of (answer_of own r) ≡ span_in kind p h) (sym other_is) answered)
+
+      pub other_bad : (e : CodeSided Refusal) → y ≡ Err e → part_of (Err e) ≡ span_in kind p h
+      other_bad e q = subst (λ (r : OneFound). part_of (answer_of (Ok a) r) ≡ span_in kind p h) q rest
+
+      pub both_good : (b : Option (CodeSided Span)) → y ≡ Ok b → part_of (ok_or (option_or a b) neither) ≡ span_in kind p h
+      both_good b q = subst (λ (r : OneFound). part_of (answer_of (Ok a) r) ≡ span_in kind p h) q rest
 
 -- ---- what the answer says
 
@@ -81,45 +128,38 @@ module _ (kind : ℕ) (p h : List ℕ) (hp : Bytes p) (hh : Bytes h) where
       files (ok ps) (refused n a) e e' = house_bad kind p h ps n a e e'
       files (ok ps) (ok hs) e e' = found ps hs e e' (held_from kind 0 ps) (held_from kind 0 hs) refl refl
 
-  -- the same of an answer r that is r'
-  pub spanned_as : (r r' : Part) → part_of r ≡ span_in kind p h → r ≡ r' → Spanned kind p h (part_of r')
-  spanned_as r r' e e' = subst (Spanned kind p h) (sym e ∙ ap part_of e') spanned
+  -- what is known of an answer
+  pub spanned_as : (x : Sided Span) → x ≡ span_in kind p h → Spanned kind p h x
+  spanned_as x e = subst (Spanned kind p h) (sym e) spanned
+
+-- in the file of its side
+pub sided : (kind : ℕ) (p h : List ℕ) (s : Side) (x : Span) → Spanned kind p h (given s x) → Read kind p h s (by_side s p h) x
+sided kind p h Project x d = d
+sided kind p h House x d = d
+sided kind p h Neither x d = absurd d
 
 -- ---- numbers and names
 
-pub number_faulty : (kind : ℕ) (p h : List ℕ) (s : Side) (n a : ℕ) → look_up kind p h ≡ faulty s n a → faulty s n a ≡ number_set kind p h
-number_faulty kind p h s n a e = sym (ap (each_sided (λ (v : Value). number v.bytes)) e)
+pub number_read : (kind : ℕ) (p h : List ℕ) (s : Side) (f : List ℕ) (x : Span) (r : ℕ) (v : List ℕ) → Read kind p h s f x → v ≡ take x.len (drop x.place f)
+    → r ≡ number v → given s r ≡ number_set kind p h
+number_read kind p h s f x r v d q e = ap (given s) (e ∙ ap number q) ∙ sym (ap (each_sided (λ (v : Value). number v.bytes)) d.looked)
 
-pub number_read : (kind : ℕ) (p h : List ℕ) (s : Side) (f : List ℕ) (x : Span) (r : ℕ) → Read kind p h s f x → r ≡ number (take x.len (drop x.place f))
-    → given s r ≡ number_set kind p h
-number_read kind p h s f x r d e = ap (given s) e ∙ sym (ap (each_sided (λ (v : Value). number v.bytes)) d.looked)
+-- a part of a file is as long as its span
+pub part_len : (f v : List ℕ) (x : Span) → x.place + x.len ≤ length f → v ≡ take x.len (drop x.place f) → length v ≡ x.len
+part_len f v x h e = ap length e ∙ simp (length-take, length-drop) (omega arith)
 
 -- an edition has two bytes, a width four
-pub number_len : (kind n : ℕ) → (kind ≡ 1) ⊎ (kind ≡ 2) → value_fits kind n ≡ true → (n ≡ 2) ⊎ (n ≡ 4)
-number_len kind n (inl e) f = inl (eqb-true n 2 (subst (λ (k : ℕ). value_fits k n ≡ true) e f))
-number_len kind n (inr e) f = inr (eqb-true n 4 (subst (λ (k : ℕ). value_fits k n ≡ true) e f))
-
-pub name_faulty : (kind : ℕ) (p h : List ℕ) (s : Side) (n a : ℕ) → look_up kind p h ≡ faulty s n a → [] ≡ bytes_in (look_up kind p h)
-name_faulty kind p h s n a e = sym (ap bytes_in e)
-
-pub name_read : (kind : ℕ) (p h : List ℕ) (s : Side) (f : List ℕ) (x : Span) → Read kind p h s f x
-    → take (x.place + x.len - x.place) (drop x.place f) ≡ bytes_in (look_up kind p h)
-name_read kind p h s f x d =
-    let e : x.place + x.len - x.place ≡ x.len = omega arith in
-    rw e (sym (ap bytes_in d.looked))
-
--- ---- where the name is handed out
+pub number_len : (kind : Kind) (n : ℕ) → (kind ≡ Edition) ⊎ (kind ≡ Width) → value_fits (kind_number kind) n ≡ true → (n ≡ 2) ⊎ (n ≡ 4)
+number_len kind n (inl e) f = inl (eqb-true n 2 (subst (λ (k : Kind). value_fits (kind_number k) n ≡ true) e f))
+number_len kind n (inr e) f = inr (eqb-true n 4 (subst (λ (k : Kind). value_fits (kind_number k) n ≡ true) e f))
 
 module _ (kind : ℕ) (p h : List ℕ) (pp hp : ℕ × ℕ) where
-  -- by the value that was looked up
-  at : (x : Sided Value) → look_up kind p h ≡ x → part_at pp hp (each_sided span_of x) ≡ part_at pp hp (span_in kind p h)
-  at x e = sym (ap (λ (y : Sided Value). part_at pp hp (each_sided span_of y)) e)
-
-  pub faulty_at : (s : Side) (n a : ℕ) → look_up kind p h ≡ faulty s n a → (pp.0, 0 + pp.1) ≡ part_at pp hp (span_in kind p h)
-  faulty_at s n a e = at (faulty s n a) e
-
-  pub project_at : (x : Span) → Read kind p h Project p x → (pp.0, x.place + pp.1) ≡ part_at pp hp (span_in kind p h)
-  project_at x d = at (given Project (record { place = x.place; bytes = take x.len (drop x.place p) })) d.looked
-
-  pub house_at : (x : Span) → Read kind p h House h x → (hp.0, x.place + hp.1) ≡ part_at pp hp (span_in kind p h)
-  house_at x d = at (given House (record { place = x.place; bytes = take x.len (drop x.place h) })) d.looked
+  -- the bytes of the value, at its place in the file of its side
+  pub name_read : (s : Side) (x : Span) → Spanned kind p h (given s x)
+      → (take x.len (drop x.place (by_side s p h)) ≡ bytes_in (look_up kind p h)) × (((by_side s pp hp).0, x.place + (by_side s pp hp).1) ≡ part_at pp hp (span_in kind p h))
+  name_read s x d = (sym (ap bytes_in (sided kind p h s x d).looked), placed s d)
+    where
+      placed : (s : Side) → Spanned kind p h (given s x) → ((by_side s pp hp).0, x.place + (by_side s pp hp).1) ≡ part_at pp hp (span_in kind p h)
+      placed Project d = sym (ap (λ (y : Sided Value). part_at pp hp (each_sided span_of y)) d.looked)
+      placed House d = sym (ap (λ (y : Sided Value). part_at pp hp (each_sided span_of y)) d.looked)
+      placed Neither d = absurd d

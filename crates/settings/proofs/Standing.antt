@@ -1,4 +1,5 @@
 -- What is read from a settings file stands there and is good; where a value stands, and what replacing or adding a setting does to the bytes. Assumes nothing.
+use Rattle.std.specs.Prelude.{Option, Some, None}
 use Prim.Native.Nat.{ℕ, zero, suc, ◌+◌, ◌-◌, ◌^◌, ◌≤◌, ◌<◌}
 use mathlib.Core.Path.{◌≡◌, refl, ap, sym, subst, ◌∙◌}
 use mathlib.Core.Bool.{Bool, true, false, cond}
@@ -14,8 +15,7 @@ use Rattle.lists.proofs.Stands.{Stands, stands_right, stands_take, stands_length
 use Rattle.lists.proofs.Places.{past}
 use Rattle.wide.specs.Bytes.{Bytes}
 use Rattle.records.specs.declared.Head.{Head}
-use Rattle.records.specs.declared.Head.TheVariants.{Cut, Is}
-use Rattle.records.specs.Records.{head_len, head_of, record_of, payload, head_at}
+use Rattle.records.specs.Records.{head, head_len, head_of, record_of, payload, head_at}
 use Rattle.records.proofs.Heads.{HeadIn, head_in, head_length, length_record, part_lt, payload_size, record_stands}
 use Rattle.settings.specs.Kinds.{value_fits}
 use Rattle.settings.specs.Files.{Setting, setting_is, bytes_of, file_of, among, GoodFrom, of_head, settings_at}
@@ -41,7 +41,7 @@ module _ (f : List ℕ) (at kind len : ℕ) (six : head_len ≤ len) (room : at 
   value_length = omega (arith, payload_size f at len room six)
 
 -- a head that was read: its record stands at the place, and is one more good setting before those behind it
-module _ (f : List ℕ) (at kind len : ℕ) (hb : Bytes f) (h : HeadIn f at (Is kind len)) (room : at + len ≤ length f) where
+module _ (f : List ℕ) (at kind len : ℕ) (hb : Bytes f) (h : HeadIn f at (Some (head kind len))) (room : at + len ≤ length f) where
   pub read_kind : kind < 2 ^ 16
   read_kind = subst (λ (k : ℕ). k < 2 ^ 16) h.0 (part_lt f (at + 4) 2 hb (omega (arith, h.2)))
 
@@ -63,11 +63,13 @@ module _ (f : List ℕ) (at kind len : ℕ) (hb : Bytes f) (h : HeadIn f at (Is 
   sound_more before fits new (refused n a) s = tt
 
 sound_head : (f before : List ℕ) (at : ℕ) (rest : List ℕ → ℕ → Result (List Setting)) → Bytes f → at ≤ length f
-    → ((before' : List ℕ) (at' : ℕ) → at' ≤ length f → at + head_len ≤ at' → Sound f before' at' (rest before' at')) → (x : Head) → HeadIn f at x
+    → ((before' : List ℕ) (at' : ℕ) → at' ≤ length f → at + head_len ≤ at' → Sound f before' at' (rest before' at')) → (x : Option Head) → HeadIn f at x
     → Sound f before at (of_head f before at x rest)
-sound_head f before at rest hb ha later Cut h = tt
-sound_head f before at rest hb ha later (Is kind len) h =
+sound_head f before at rest hb ha later None h = tt
+sound_head f before at rest hb ha later (Some x) h =
     let P : Result (List Setting) → Type 0 = Sound f before at in
+    let kind : ℕ = x.kind in
+    let len : ℕ = x.len in
     let room : at + len ≤ length f = omega (arith, h.2, h.3) in
     pick P (value_fits kind (len - head_len)) (λ fits.
     pick P (among kind before) (λ _. tt) (λ new.

@@ -1,10 +1,9 @@
 -- A settings file (document 02, 5/12): what it is made of, when it is good, and its settings or its first fault.
-use Rattle.std.specs.Prelude.{ℕ, zero, suc, ◌+◌, ◌-◌, ◌^◌, ◌≤◌, ◌<◌, ◌≡◌, Bool, true, false, cond, ◌&&◌, ◌||◌, List, [], ◌∷◌, ◌++◌, eqb, ltb, length}
+use Rattle.std.specs.Prelude.{ℕ, zero, suc, ◌+◌, ◌-◌, ◌^◌, ◌≤◌, ◌<◌, ◌≡◌, Bool, true, false, cond, ◌&&◌, ◌||◌, List, [], ◌∷◌, ◌++◌, eqb, ltb, length, Option, Some, None}
 use Rattle.refusals.specs.Numbers.{settings_limit, too_long, bad_settings}
 use Rattle.refusals.specs.Result.{Result, ok, refused, and_then}
-use Rattle.records.specs.Records.{head_len, record_of, payload, head_at}
 use Rattle.records.specs.declared.Head.{Head}
-use Rattle.records.specs.declared.Head.TheVariants.{Cut, Is}
+use Rattle.records.specs.Records.{head_len, record_of, payload, head_at}
 use Rattle.settings.specs.Kinds.{edition_kind, value_fits}
 
 pub record Setting : Type 0 where
@@ -48,12 +47,12 @@ pub record GoodFile (ys : List Setting) (f : List ℕ) : Type 0 where
 -- ---- a file's settings, or its first fault
 
 -- the record at a place, after those of the kinds `before`; rest has the settings from a later place on
-abbrev pub of_head : List ℕ → List ℕ → ℕ → Head → (List ℕ → ℕ → Result (List Setting)) → Result (List Setting)
-of_head f before at Cut rest = refused bad_settings at
-of_head f before at (Is kind len) rest =
-    cond (value_fits kind (len - head_len))
-    (cond (among kind before) (refused bad_settings at)
-    (and_then (rest (kind ∷ before) (at + len)) (λ ys. ok (setting_is kind (payload f at len) ∷ ys))))
+abbrev pub of_head : List ℕ → List ℕ → ℕ → Option Head → (List ℕ → ℕ → Result (List Setting)) → Result (List Setting)
+of_head f before at None rest = refused bad_settings at
+of_head f before at (Some h) rest =
+    cond (value_fits h.kind (h.len - head_len))
+    (cond (among h.kind before) (refused bad_settings at)
+    (and_then (rest (h.kind ∷ before) (at + h.len)) (λ ys. ok (setting_is h.kind (payload f at h.len) ∷ ys))))
     (refused bad_settings at)
 
 -- from a place on; every record takes a byte, so that n of them are enough for the n bytes left
@@ -62,9 +61,9 @@ settings_at zero f before at = ok []
 settings_at (suc n) f before at = cond (ltb at (length f)) (of_head f before at (head_at f at) (settings_at n f)) (ok [])
 
 -- the first record is a good edition
-abbrev pub is_edition : Head → Bool
-is_edition Cut = false
-is_edition (Is kind len) = eqb kind edition_kind && eqb len 8
+abbrev pub is_edition : Option Head → Bool
+is_edition None = false
+is_edition (Some h) = eqb h.kind edition_kind && eqb h.len 8
 
 unfoldable pub settings_of : List ℕ → Result (List Setting)
 settings_of f =

@@ -1,10 +1,9 @@
 -- What holds of settings files over the whole crate (document 02, 5/12): THEOREMS good_sound, good_complete, fault_placed, copy_good, written_project, written_house, others_project, others_house, width_written, width_behind, style_written, style_behind, write_same, skipped.
-use Rattle.std.specs.Prelude.{ℕ, ◌-◌, ◌^◌, ◌≤◌, ◌<◌, ◌≡◌, Bool, true, false, cond, ◌⊎◌, List, [], ◌∷◌, ltb, length, take}
+use Rattle.std.specs.Prelude.{ℕ, ◌-◌, ◌^◌, ◌≤◌, ◌<◌, ◌≡◌, Bool, true, false, cond, ◌⊎◌, List, [], ◌∷◌, ltb, length, take, Option, Some, None}
 use Rattle.refusals.specs.Numbers.{settings_limit, too_long, bad_settings}
 use Rattle.refusals.specs.Result.{ok, refused}
 use Rattle.wide.specs.Bytes.{Bytes}
 use Rattle.records.specs.declared.Head.{Head}
-use Rattle.records.specs.declared.Head.TheVariants.{Cut, Is}
 use Rattle.records.specs.Records.{head_len, head_at}
 use Rattle.settings.specs.Kinds.{width_kind, style_kind, first_skipped, value_fits}
 use Rattle.settings.specs.Files.{Setting, file_of, among, GoodFrom, GoodFile, is_edition, settings_of}
@@ -27,9 +26,9 @@ kinds_on before [] = before
 kinds_on before (y ∷ ys) = kinds_on (y.kind ∷ before) ys
 
 -- the head of a good record after those of the kinds `before`: not cut, its value fits its kind, and its kind is new
-abbrev pub is_good : List ℕ → Head → Bool
-is_good before Cut = false
-is_good before (Is kind len) = cond (value_fits kind (len - head_len)) (cond (among kind before) false true) false
+abbrev pub is_good : List ℕ → Option Head → Bool
+is_good before None = false
+is_good before (Some h) = cond (value_fits h.kind (h.len - head_len)) (cond (among h.kind before) false true) false
 
 -- the file begins with an edition, the bytes before a place are those of good settings, and the record at the place is bad or the second of its kind
 pub record FirstBad (f : List ℕ) (a : ℕ) : Type 0 where

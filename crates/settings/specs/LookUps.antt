@@ -1,6 +1,8 @@
 -- Looking a setting up in the project's file, with the house file behind it (document 02, 5/12): both are checked whole, all of the project's before the house's.
 use Rattle.std.specs.Prelude.{ℕ, ◌+◌, cond, List, [], ◌∷◌, eqb, length}
+use Rattle.std.specs.Prelude.{Result as CodeResult, Ok, Err}
 use Rattle.refusals.specs.Numbers.{not_set}
+use Rattle.refusals.specs.declared.Refusal.{Refusal}
 use Rattle.refusals.specs.Result.{Result, ok, refused}
 use Rattle.records.specs.Records.{head_len}
 use Rattle.wide.specs.Bytes.{number}
@@ -8,10 +10,8 @@ use Rattle.settings.specs.Kinds.{edition_kind, width_kind, style_kind}
 use Rattle.settings.specs.Files.{Setting, bytes_of, settings_of}
 pub use Rattle.settings.specs.declared.Side.{Side}
 pub use Rattle.settings.specs.declared.Side.TheVariants.{Project, House, Neither}
-use Rattle.settings.specs.declared.Number.{Number}
-use Rattle.settings.specs.declared.Number.TheVariants as number-answer
-use Rattle.settings.specs.declared.Part.{Part}
-use Rattle.settings.specs.declared.Part.TheVariants as part-answer
+pub use Rattle.settings.specs.declared.Span.{Span}
+use Rattle.settings.specs.declared.Sided.{Sided as CodeSided}
 
 -- a value: the place of its first byte, and its bytes
 pub record Value : Type 0 where
@@ -65,10 +65,6 @@ abbrev pub width_in : List ℕ → List ℕ → Sided ℕ
 width_in project house = number_set width_kind project house
 
 -- where a value stands, and how many bytes it has
-pub record Span : Type 0 where
-  pub place : ℕ
-  pub len : ℕ
-
 abbrev pub span_in : ℕ → List ℕ → List ℕ → Sided Span
 span_in kind project house = each_sided (λ (v : Value). record { place = v.place; len = length v.bytes }) (look_up kind project house)
 
@@ -83,6 +79,12 @@ bytes_in (faulty s n a) = []
 abbrev pub style_name_in : List ℕ → List ℕ → List ℕ
 style_name_in project house = bytes_in (look_up style_kind project house)
 
+-- of two files, or of their places, that of a side; for neither, the project's
+abbrev pub by_side : {A : Type 0} → Side → A → A → A
+by_side Project p h = p
+by_side House p h = h
+by_side Neither p h = p
+
 -- where the part begins that is handed out, by where the two files do: a block of memory, and a place in it
 abbrev pub part_at : ℕ × ℕ → ℕ × ℕ → Sided Span → ℕ × ℕ
 part_at p h (given Project x) = (p.0, x.place + p.1)
@@ -90,11 +92,13 @@ part_at p h (given House x) = (h.0, x.place + h.1)
 part_at p h (given Neither x) = (p.0, 0 + p.1)
 part_at p h (faulty s n a) = (p.0, 0 + p.1)
 
--- what each case of the code's answers stands for
-abbrev pub number_of : Number → Sided ℕ
-number_of (number-answer.Is s n) = given s n
-number_of (number-answer.Refused s r) = faulty s r.number r.place
+-- what the code's answers stand for
+abbrev pub sided_of : {A : Type 0} → CodeResult (CodeSided A) (CodeSided Refusal) → Sided A
+sided_of (Ok x) = given x.side x.value
+sided_of (Err x) = faulty x.side x.value.number x.value.place
 
-abbrev pub part_of : Part → Sided Span
-part_of (part-answer.Of s place len) = given s (record { place = place; len = len })
-part_of (part-answer.Refused s r) = faulty s r.number r.place
+abbrev pub number_of : CodeResult (CodeSided ℕ) (CodeSided Refusal) → Sided ℕ
+number_of r = sided_of r
+
+abbrev pub part_of : CodeResult (CodeSided Span) (CodeSided Refusal) → Sided Span
+part_of r = sided_of r

@@ -1,30 +1,35 @@
 -- How the code finds a setting in one walk: what it answers, and the kinds that it has seen, as bits in words. Nothing here is promised to callers.
-use Rattle.std.specs.Prelude.{ℕ, ◌-◌, ◌/◌, ◌%◌, ◌^◌, ◌≤◌, ◌<◌, ◌≡◌, ◌⊎◌, Bool, true, false, cond, List, ◌++◌, eqb, ltb, length, get_or, take, drop}
-use Rattle.refusals.specs.Numbers.{bad_settings, bad_style_name}
+use Rattle.std.specs.Prelude.{ℕ, ◌-◌, ◌/◌, ◌%◌, ◌^◌, ◌≤◌, ◌<◌, ◌≡◌, ◌⊎◌, Bool, true, false, cond, List, ◌++◌, ltb, length, get_or, take, drop, Option, Some, None}
+use Rattle.std.specs.Prelude.{Result as CodeResult, Ok, Err}
+use Rattle.std.specs.Option.{option_or}
+use Rattle.refusals.specs.Numbers.{bad_style_name}
+use Rattle.refusals.specs.declared.Refusal.{Refusal}
 use Rattle.refusals.specs.Result.{Result, ok, refused}
 use Rattle.records.specs.Records.{record_of}
 use Rattle.settings.specs.Kinds.{first_skipped, value_fits}
 use Rattle.settings.specs.Files.{Setting, among}
-use Rattle.settings.specs.LookUps.{Held, absent, held, held_from}
+use Rattle.settings.specs.LookUps.{Side, Span, Held, absent, held, held_from}
+use Rattle.settings.specs.declared.Sided.{Sided as CodeSided}
 use Rattle.settings.specs.Writing.{roomed}
-use Rattle.settings.specs.declared.finding.Found.{Found}
-use Rattle.settings.specs.declared.finding.Found.TheVariants as found
 
 -- where a value stands
-abbrev pub found_at : Held → Found
-found_at absent = found.Absent
-found_at (held v) = found.At v.place (length v.bytes)
+abbrev pub found_at : Held → Option Span
+found_at absent = None
+found_at (held v) = Some (record { place = v.place; len = length v.bytes })
 
--- the same from a place on, where one that was met before is (place, len), or place is 0
-abbrev pub found_from : ℕ → ℕ → ℕ → ℕ → Result (List Setting) → Found
-found_from kind place len at (ok ys) = cond (eqb place 0) (found_at (held_from kind at ys)) (found.At place len)
-found_from kind place len at (refused n a) = found.Bad (record { number = n; place = a })
+-- the same from a place on, behind one that may have been met before
+abbrev pub found_from : ℕ → Option Span → ℕ → Result (List Setting) → CodeResult (Option Span) Refusal
+found_from kind met at (ok ys) = Ok (option_or met (found_at (held_from kind at ys)))
+found_from kind met at (refused n a) = Err (record { number = n; place = a })
 
-abbrev pub bad_at : ℕ → Found
-bad_at at = found.Bad (record { number = bad_settings; place = at })
+abbrev pub found_in : ℕ → Result (List Setting) → CodeResult (Option Span) Refusal
+found_in kind x = found_from kind None 0 x
 
-abbrev pub found_in : ℕ → Result (List Setting) → Found
-found_in kind x = found_from kind 0 0 0 x
+-- the same, and whose file it is
+abbrev pub on_side : Side → CodeResult (Option Span) Refusal → CodeResult (Option (CodeSided Span)) (CodeSided Refusal)
+on_side s (Ok None) = Ok None
+on_side s (Ok (Some x)) = Ok (Some (record { side = s; value = x }))
+on_side s (Err r) = Err (record { side = s; value = r })
 
 -- ---- the kinds seen
 

@@ -1,13 +1,13 @@
 -- Writing a width or a style name (document 02, 5/12): a copy of the file with that record replaced in its place, or added at the end.
-use Rattle.std.specs.Prelude.{ℕ, cond, List, [], ◌∷◌, eqb, ltb, length}
+use Rattle.std.specs.Prelude.{ℕ, ◌≡◌, cond, List, [], ◌∷◌, eqb, ltb, length}
+use Rattle.std.specs.Prelude.{Result as CodeResult, Ok, Err}
 use Rattle.refusals.specs.Numbers.{settings_limit, too_long, print_room, bad_style_name}
+use Rattle.refusals.specs.declared.Refusal.{Refusal}
 use Rattle.refusals.specs.Result.{Result, ok, refused, and_then, refused_by}
 use Rattle.lists.specs.Over.{over}
 use Rattle.wide.specs.Bytes.{le}
 use Rattle.settings.specs.Kinds.{width_kind, style_kind, value_fits}
 use Rattle.settings.specs.Files.{Setting, setting_is, file_of, settings_of}
-use Rattle.settings.specs.declared.Written.{Written}
-use Rattle.settings.specs.declared.Written.TheVariants.{Copy, Refused}
 
 -- the settings with y in the place of the one of its kind, or at the end
 unfoldable pub replaced : Setting → List Setting → List Setting
@@ -41,7 +41,11 @@ width_setting w = setting_is width_kind (le 4 w)
 abbrev pub style_setting : List ℕ → Setting
 style_setting name = setting_is style_kind name
 
--- what each case of the code's answer stands for
-abbrev pub written_of : Written → Result ℕ
-written_of (Copy n) = ok n
-written_of (Refused r) = refused_by r
+-- what the code's answer stands for
+abbrev pub written_of : CodeResult ℕ Refusal → Result ℕ
+written_of (Ok n) = ok n
+written_of (Err r) = refused_by r
+
+-- a copy into a room: its length is answered, or its refusal
+abbrev pub CopiedInto : Result (List ℕ) → CodeResult ℕ Refusal → List ℕ → List ℕ → Type 0
+CopiedInto c result old new = (written_of result ≡ sized c) × (new ≡ laid c old)

@@ -2,124 +2,131 @@
 #![tactic(auto)]
 
 mod finding;
+mod kinds;
 mod seen;
 mod splicing;
 
 ghost use Rattle.std.specs.Prelude.{◌≡◌, ◌⊎◌, ◌+◌, ◌≤◌, length, take, drop};
 ghost use Rattle.wide.specs.Bytes.{number};
-ghost use Rattle.settings.specs.Files.{setting_is};
-ghost use Rattle.settings.specs.LookUps.{number_set, edition_in, width_in, span_in, style_in, style_name_in, part_at, number_of, part_of};
-ghost use Rattle.settings.specs.Writing.{copy_of, sized, laid, width_setting, style_setting, written_of};
+ghost use Rattle.settings.specs.Kinds.{kind_number};
+ghost use Rattle.settings.specs.Files.{setting_is, settings_of};
+ghost use Rattle.settings.specs.LookUps.{number_set, edition_in, width_in, span_in, style_in, style_name_in, by_side, part_at, number_of, part_of};
+ghost use Rattle.settings.specs.Writing.{copy_of, width_setting, style_setting, CopiedInto};
+ghost use Rattle.settings.specs.PrivateFinding.{found_in, on_side};
+ghost use Rattle.settings.specs.declared.kinds.Kind.TheVariants.{Edition, Width};
 
-use finding::Found;
-use refusals::Refusal;
+pub use kinds::{FIRST_SKIPPED, Kind};
+use records::HEAD;
+use refusals::{Fault, Refusal};
 
-// The kinds of records.
-pub const EDITION: usize = 1;
-
-pub const WIDTH: usize = 2;
-
-pub const STYLE: usize = 3;
-
-// Unknown kinds from here up are skipped.
-pub const FIRST_SKIPPED: usize = 32768;
-
-// Whose file an answer comes from, or which is at fault.
-#[derive(Clone, Copy)]
+// Whose file an answer comes from, or which is at fault. `Neither` is a case and no None: document 02 names it, and it is a word of the header for C.
+#[derive(Clone, Copy, Debug, PartialEq, Eq)]
 pub enum Side {
     Project,
     House,
     Neither,
 }
 
-#[derive(Clone, Copy)]
-pub enum Number {
-    Is(Side, usize),
-    Refused(Side, Refusal),
+// A value or a refusal, and whose file it is of.
+#[derive(Clone, Copy, Debug, PartialEq, Eq)]
+pub struct Sided<T> {
+    pub side: Side,
+    pub value: T,
 }
 
-#[derive(Clone, Copy)]
-pub enum Part {
-    // The place of the first byte in that file, and the number of bytes.
-    Of(Side, usize, usize),
-    Refused(Side, Refusal),
+// The place of the first byte of a part of a file, and the number of its bytes.
+#[derive(Clone, Copy, Debug, PartialEq, Eq)]
+pub struct Span {
+    pub place: usize,
+    pub len: usize,
 }
 
-#[derive(Clone, Copy)]
-pub enum Written {
-    // The bytes of the copy.
-    Copy(usize),
-    Refused(Refusal),
+impl Side {
+    // The file of this side; for neither, which no value is of, the project's. The two files stay two slices here and below: the public functions have them so.
+    fn file<'a>(self, project: &'a [u8], house: &'a [u8]) -> &'a [u8]
+        ensures { (result.now ≡ by_side self project.now house.now)
+            × (result.ref_ptr ≡ by_side self project.entry.ref_ptr house.entry.ref_ptr) }
+    {
+        match self {
+            Side::Project | Side::Neither => project,
+            Side::House => house,
+        }
+    }
+}
+
+// Where the value of a kind stands in one file, or the file's first fault; and whose file it is.
+fn find(side: Side, f: &[u8], kind: Kind) -> Result<Option<Sided<Span>>, Sided<Refusal>>
+    ensures { result ≡ on_side side (found_in (kind_number kind) (settings_of f.now)) }
+{
+    match finding::find(f, kind) {
+        Ok(found) => Ok(found.map(|value| Sided { side, value })),
+        Err(value) => Err(Sided { side, value }),
+    }
 }
 
 // Where the value of a kind stands: in the project's file if it is set there, else in the house file.
-fn setting(kind: usize, project: &[u8], house: &[u8]) -> Part
-    ensures { part_of result ≡ span_in kind project.now house.now }
+#[tactic(auto, using(crate::proofs::Spans::own_bad, crate::proofs::Spans::other_bad, crate::proofs::Spans::both_good))]
+fn setting(kind: Kind, project: &[u8], house: &[u8]) -> Result<Sided<Span>, Sided<Refusal>>
+    ensures { part_of result ≡ span_in (kind_number kind) project.now house.now }
 {
-    match finding::find(project, kind) {
-        Found::Bad(r) => Part::Refused(Side::Project, r),
-        Found::At(place, len) => match finding::find(house, kind) {
-            Found::Bad(r) => Part::Refused(Side::House, r),
-            Found::At(other, size) => Part::Of(Side::Project, place, len),
-            Found::Absent => Part::Of(Side::Project, place, len),
-        },
-        Found::Absent => match finding::find(house, kind) {
-            Found::Bad(r) => Part::Refused(Side::House, r),
-            Found::At(place, len) => Part::Of(Side::House, place, len),
-            Found::Absent => Part::Refused(
-                Side::Neither,
-                Refusal {
-                    number: refusals::NOT_SET,
-                    place: 0,
-                },
-            ),
-        },
-    }
+    let own = find(Side::Project, project, kind)?;
+    let other = find(Side::House, house, kind)?;
+    own.or(other).ok_or(Sided {
+        side: Side::Neither,
+        value: Fault::NotSet.at(0),
+    })
+}
+
+// The bytes of a span in the file of its side.
+fn part<'a>(at: Sided<Span>, project: &'a [u8], house: &'a [u8]) -> &'a [u8]
+    requires { at.value.place + at.value.len ≤ length (by_side at.side project.now house.now) }
+    ensures { (result.now ≡ take at.value.len (drop at.value.place (by_side at.side project.now house.now)))
+        × (result.ref_ptr ≡ ((by_side at.side project.entry.ref_ptr house.entry.ref_ptr).0, at.value.place + (by_side at.side project.entry.ref_ptr house.entry.ref_ptr).1)) }
+{
+    let Span { place, len } = at.value;
+    &at.side.file(project, house)[place..place + len]
 }
 
 // The number in the bytes of a value.
-fn value_at(f: &[u8], place: usize, len: usize) -> usize
-    requires { ((len ≡ 2) ⊎ (len ≡ 4)) × (place + len ≤ length f.now) }
-    ensures { result ≡ number (take len (drop place f.now)) }
+fn number(value: &[u8]) -> usize
+    requires { (length value.now ≡ 2) ⊎ (length value.now ≡ 4) }
+    ensures { result ≡ number value.now }
 {
-    if len == 2 {
-        return wide::u16_at(f, place);
+    if value.len() == 2 {
+        return wide::u16_at(value, 0);
     }
-    wide::u32_at(f, place)
+    wide::u32_at(value, 0)
 }
 
-fn number_in(kind: usize, project: &[u8], house: &[u8]) -> Number
-    requires { (kind ≡ 1) ⊎ (kind ≡ 2) }
-    ensures { number_of result ≡ number_set kind project.now house.now }
+fn number_in(kind: Kind, project: &[u8], house: &[u8]) -> Result<Sided<usize>, Sided<Refusal>>
+    requires { (kind ≡ Edition) ⊎ (kind ≡ Width) }
+    ensures { number_of result ≡ number_set (kind_number kind) project.now house.now }
 {
-    match setting(kind, project, house) {
-        Part::Refused(side, r) => Number::Refused(side, r),
-        Part::Of(side, place, len) => match side {
-            Side::Project => Number::Is(Side::Project, value_at(project, place, len)),
-            Side::House => Number::Is(Side::House, value_at(house, place, len)),
-            Side::Neither => Number::Is(Side::Neither, 0),
-        },
-    }
+    let at = setting(kind, project, house)?;
+    Ok(Sided {
+        side: at.side,
+        value: number(part(at, project, house)),
+    })
 }
 
 // The edition of the project's file, which is never absent.
-pub fn edition(project: &[u8], house: &[u8]) -> Number
+pub fn edition(project: &[u8], house: &[u8]) -> Result<Sided<usize>, Sided<Refusal>>
     ensures { number_of result ≡ edition_in project.now house.now }
 {
-    number_in(EDITION, project, house)
+    number_in(Kind::Edition, project, house)
 }
 
-pub fn width(project: &[u8], house: &[u8]) -> Number
+pub fn width(project: &[u8], house: &[u8]) -> Result<Sided<usize>, Sided<Refusal>>
     ensures { number_of result ≡ width_in project.now house.now }
 {
-    number_in(WIDTH, project, house)
+    number_in(Kind::Width, project, house)
 }
 
 // Where the style name stands.
-pub fn style(project: &[u8], house: &[u8]) -> Part
+pub fn style(project: &[u8], house: &[u8]) -> Result<Sided<Span>, Sided<Refusal>>
     ensures { part_of result ≡ style_in project.now house.now }
 {
-    setting(STYLE, project, house)
+    setting(Kind::Style, project, house)
 }
 
 // The style name itself, as a part of one of the two files; no bytes where `style` refuses.
@@ -127,56 +134,41 @@ pub fn style_name<'a>(project: &'a [u8], house: &'a [u8]) -> &'a [u8]
     ensures { (result.now ≡ style_name_in project.now house.now)
         × (result.ref_ptr ≡ part_at project.entry.ref_ptr house.entry.ref_ptr (style_in project.now house.now)) }
 {
-    match setting(STYLE, project, house) {
-        Part::Refused(side, r) => &project[0..0],
-        Part::Of(side, place, len) => match side {
-            Side::Project => {
-                let end = place + len;
-                &project[place..end]
-            }
-            Side::House => {
-                let end = place + len;
-                &house[place..end]
-            }
-            Side::Neither => &project[0..0],
-        },
+    match style(project, house) {
+        Ok(at) => part(at, project, house),
+        Err(_) => &project[..0],
     }
 }
 
 // A copy of the file with the record of a kind replaced in its place, or added at the end.
-fn write(f: &[u8], kind: usize, value: &[u8], out: &mut [u8]) -> Written
-    requires { (kind ≡ 2) ⊎ (kind ≡ 3) }
-    ensures { (written_of result ≡ sized (copy_of f.now (setting_is kind value.now) (length out.old)))
-        × (out.new ≡ laid (copy_of f.now (setting_is kind value.now) (length out.old)) out.old) }
+fn write(f: &[u8], kind: Kind, value: &[u8], out: &mut [u8]) -> Result<usize, Refusal>
+    ensures { CopiedInto (copy_of f.now (setting_is (kind_number kind) value.now) (length out.old)) result out.old out.new }
 {
-    match finding::find(f, kind) {
-        Found::Bad(r) => Written::Refused(r),
-        Found::At(place, len) => splicing::splice(
-            f,
-            place - records::HEAD,
-            place + len,
-            kind,
-            value,
-            out,
-        ),
-        Found::Absent => splicing::splice(f, f.len(), f.len(), kind, value, out),
-    }
+    let found = finding::find(f, kind)?;
+    let old = match found {
+        Some(Span { place, len }) => Span {
+            place: place - HEAD,
+            len: len + HEAD,
+        },
+        None => Span {
+            place: f.len(),
+            len: 0,
+        },
+    };
+    splicing::splice(f, old, kind, value, out)
 }
 
 // Writes a width.
-pub fn write_width(f: &[u8], width: u32, out: &mut [u8]) -> Written
-    ensures { (written_of result ≡ sized (copy_of f.now (width_setting width) (length out.old)))
-        × (out.new ≡ laid (copy_of f.now (width_setting width) (length out.old)) out.old) }
+#[tactic(auto, using(crate::proofs::Joining::width_value))]
+pub fn write_width(f: &[u8], width: u32, out: &mut [u8]) -> Result<usize, Refusal>
+    ensures { CopiedInto (copy_of f.now (width_setting width) (length out.old)) result out.old out.new }
 {
-    let mut value = [0u8; 4];
-    wide::put_u32(width as usize, &mut value);
-    write(f, WIDTH, &value, out)
+    write(f, Kind::Width, &width.to_le_bytes(), out)
 }
 
 // Writes a style name.
-pub fn write_style(f: &[u8], name: &[u8], out: &mut [u8]) -> Written
-    ensures { (written_of result ≡ sized (copy_of f.now (style_setting name.now) (length out.old)))
-        × (out.new ≡ laid (copy_of f.now (style_setting name.now) (length out.old)) out.old) }
+pub fn write_style(f: &[u8], name: &[u8], out: &mut [u8]) -> Result<usize, Refusal>
+    ensures { CopiedInto (copy_of f.now (style_setting name.now) (length out.old)) result out.old out.new }
 {
-    write(f, STYLE, name, out)
+    write(f, Kind::Style, name, out)
 }

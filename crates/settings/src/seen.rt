@@ -1,33 +1,49 @@
-// The kinds that were seen in a file, a bit each. A file may have 10,922 records: so each is looked up in one step, and not among those before it.
-ghost use Rattle.std.specs.Prelude.{◌≡◌, ℕ, List, ◌∷◌, length};
+// The kinds that were seen in a file, a bit each: a file may have 10,922 records, so each is looked up in one step, and not among those before it. No set of the library, since those are on the heap, and there is none.
+ghost use Rattle.std.specs.Prelude.{◌≡◌, ℕ, List, [], ◌∷◌};
 ghost use Rattle.settings.specs.Files.{among};
 ghost use Rattle.settings.specs.PrivateFinding.{slot, Marked, Tells};
 
-// 64 bits for the kinds that are known, and one for each kind that is skipped.
-pub const WORDS: usize = 513;
+use super::kinds::FIRST_SKIPPED;
 
-// The bit of a kind: the known ones have the first 64, and behind them stand those that are skipped.
+// The known kinds have the first bits, and behind them stand those that are skipped.
+const KNOWN: usize = 64;
+
+// 64 bits for the kinds that are known, and one for each kind that is skipped.
+const WORDS: usize = 513;
+
+#[derive(Clone, Copy, Debug, PartialEq, Eq)]
+pub struct Seen {
+    pub words: [u64; WORDS],
+}
+
+// The bit of a kind.
 fn slot_of(kind: usize) -> usize
     ensures { result ≡ slot kind }
 {
-    if kind < super::FIRST_SKIPPED {
+    if kind < FIRST_SKIPPED {
         return kind;
     }
-    kind - 32704
+    kind - (FIRST_SKIPPED - KNOWN)
 }
 
-// Marks a kind as seen, and answers whether it was seen before.
-pub fn mark(words: &mut [u64], kind: usize) -> bool
-    requires { (length words.old ≡ 513) × Marked kind }
-    ensures { (before : List ℕ) → Tells words.old before → (result ≡ among kind before) × Tells words.new (kind ∷ before) }
-{
-    let s = slot_of(kind);
-    let i = s / 64;
-    let k = s % 64;
-    let w = words[i];
-    if (w >> k) % 2 == 1 {
-        return true;
+impl Seen {
+    // No kind was seen.
+    #[tactic(auto, using(crate::proofs::Bits::none_seen))]
+    pub fn none() -> Seen
+        ensures { Tells result.words [] }
+    {
+        Seen { words: [0; WORDS] }
     }
-    words[i] = w | (1u64 << k);
-    false
+
+    // Marks a kind as seen, and answers whether it was seen before.
+    pub fn mark(&mut self, kind: usize) -> bool
+        requires { Marked kind }
+        ensures { (before : List ℕ) → Tells self.old.words before → (result ≡ among kind before) × Tells self.new.words (kind ∷ before) }
+    {
+        let slot = slot_of(kind);
+        let (i, bit) = (slot / 64, slot % 64);
+        let word = self.words[i];
+        self.words[i] = word | (1u64 << bit);
+        (word >> bit) % 2 == 1
+    }
 }

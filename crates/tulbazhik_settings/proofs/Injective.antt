@@ -7,7 +7,8 @@ use lib.Dec.{eqb}
 use lib.ListN.{get_or}
 use Rattle.settings.specs.declared.Side.{Side}
 use Rattle.settings.specs.declared.Side.TheVariants.{Project, House, Neither}
-use Rattle.settings.specs.LookUps.{Sided, given, faulty, Span}
+use Rattle.settings.specs.declared.Span.{Span}
+use Rattle.settings.specs.LookUps.{Sided, given, faulty}
 use Rattle.words.specs.Words.{refused_answer}
 use Rattle.tulbazhik_settings.specs.Sides.{side_word, number_words, style_words}
 

@@ -1,9 +1,12 @@
 -- What a look-up of a setting answers, as eight words for callers in C: the last says whose file it comes from, or which is at fault.
-use Rattle.std.specs.Prelude.{ℕ, List, [], ◌∷◌}
+use Rattle.std.specs.Prelude.{ℕ, ◌≡◌, List, [], ◌∷◌}
 use Rattle.settings.specs.declared.Side.{Side}
 use Rattle.settings.specs.declared.Side.TheVariants.{Project, House, Neither}
-use Rattle.settings.specs.LookUps.{Sided, given, faulty, Span}
-use Rattle.words.specs.Words.{done_answer, refused_answer}
+use Rattle.settings.specs.declared.Span.{Span}
+use Rattle.settings.specs.LookUps.{Sided, given, faulty}
+use Rattle.refusals.specs.Result.{Result}
+use Rattle.settings.specs.Writing.{sized, laid}
+use Rattle.words.specs.Words.{done_answer, refused_answer, length_words}
 
 -- 0 is an answer that has no side
 abbrev pub side_word : Side → ℕ
@@ -27,3 +30,7 @@ number_words (faulty s n a) = faulty_words s n a
 unfoldable pub style_words : Sided Span → List ℕ
 style_words (given s x) = sided_words done_answer x.place x.len 0 s
 style_words (faulty s n a) = faulty_words s n a
+
+-- of a copy into a room: its length, or its refusal
+abbrev pub CopiedWords : Result (List ℕ) → List ℕ → List ℕ → List ℕ → Type 0
+CopiedWords c answer old new = (answer ≡ length_words (sized c)) × (new ≡ laid c old)

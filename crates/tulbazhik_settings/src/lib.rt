@@ -3,20 +3,21 @@
 
 ghost use Rattle.std.specs.Prelude.{◌≡◌, length};
 ghost use Rattle.settings.specs.LookUps.{edition_in, width_in, style_in, number_of, part_of};
-ghost use Rattle.settings.specs.Writing.{copy_of, sized, laid, width_setting, style_setting, written_of};
+ghost use Rattle.settings.specs.Writing.{copy_of, width_setting, style_setting, written_of};
 ghost use Rattle.words.specs.Words.{length_words};
-ghost use Rattle.tulbazhik_settings.specs.Sides.{side_word, faulty_words, number_words, style_words};
+ghost use Rattle.tulbazhik_settings.specs.Sides.{side_word, sided_words, faulty_words, number_words, style_words, CopiedWords};
 
 use refusals::Refusal;
-use settings::{Number, Part, Side, Written};
+use settings::{Side, Sided, Span};
 
-// The last word of a look-up's answer; 0 is an answer that has no side.
+// The last word of a look-up's answer, as in the header for C; 0 is an answer that has no side.
 pub const PROJECT: u64 = 1;
 
 pub const HOUSE: u64 = 2;
 
 pub const NEITHER: u64 = 3;
 
+// No From: a side is of settings, and its words are the header's.
 fn side_word(side: Side) -> u64
     ensures { result ≡ side_word side }
 {
@@ -27,58 +28,56 @@ fn side_word(side: Side) -> u64
     }
 }
 
-fn put_faulty(side: Side, r: Refusal, answer: &mut [u64; 8])
-    ensures { answer.new ≡ faulty_words side r.number r.place }
+// An answer: its kind, a place, a length or a refusal's number, a number, and the side.
+fn put_sided(kind: u64, place: usize, n: usize, low: usize, side: Side, answer: &mut [u64; 8])
+    ensures { answer.new ≡ sided_words kind place n low side }
 {
     *answer = [
-        words::REFUSED,
-        r.place as u64,
-        r.number as u64,
+        kind,
+        place as u64,
+        n as u64,
         0,
-        0,
+        low as u64,
         0,
         0,
         side_word(side),
     ];
 }
 
-fn put_number(x: Number, answer: &mut [u64; 8])
+fn put_faulty(x: Sided<Refusal>, answer: &mut [u64; 8])
+    ensures { answer.new ≡ faulty_words x.side x.value.number x.value.place }
+{
+    let Refusal { number, place } = x.value;
+    put_sided(words::REFUSED, place, number as usize, 0, x.side, answer);
+}
+
+#[tactic(auto, unfolding(crate::specs::Sides::number_words))]
+fn put_number(x: Result<Sided<usize>, Sided<Refusal>>, answer: &mut [u64; 8])
     ensures { answer.new ≡ number_words (number_of x) }
 {
     match x {
-        Number::Is(side, n) => {
-            *answer = [words::DONE, 0, 0, 0, n as u64, 0, 0, side_word(side)];
-        }
-        Number::Refused(side, r) => put_faulty(side, r, answer),
+        Ok(x) => put_sided(words::DONE, 0, 0, x.value, x.side, answer),
+        Err(x) => put_faulty(x, answer),
     }
 }
 
-fn put_style(x: Part, answer: &mut [u64; 8])
+#[tactic(auto, unfolding(crate::specs::Sides::style_words))]
+fn put_style(x: Result<Sided<Span>, Sided<Refusal>>, answer: &mut [u64; 8])
     ensures { answer.new ≡ style_words (part_of x) }
 {
     match x {
-        Part::Of(side, place, len) => {
-            *answer = [
-                words::DONE,
-                place as u64,
-                len as u64,
-                0,
-                0,
-                0,
-                0,
-                side_word(side),
-            ];
-        }
-        Part::Refused(side, r) => put_faulty(side, r, answer),
+        Ok(x) => put_sided(words::DONE, x.value.place, x.value.len, 0, x.side, answer),
+        Err(x) => put_faulty(x, answer),
     }
 }
 
-fn put_written(x: Written, answer: &mut [u64; 8])
+#[tactic(auto, unfolding(words::specs::Words::length_words))]
+fn put_written(x: Result<usize, Refusal>, answer: &mut [u64; 8])
     ensures { answer.new ≡ length_words (written_of x) }
 {
     match x {
-        Written::Copy(n) => words::put_length(n, answer),
-        Written::Refused(r) => words::put_refusal(r, 0, answer),
+        Ok(n) => words::put_length(n, answer),
+        Err(r) => words::put_refusal(r, 0, answer),
     }
 }
 
@@ -105,14 +104,14 @@ pub fn tulbazhik_style(project: &[u8], house: &[u8], answer: &mut [u64; 8])
 
 // A copy of a file with a width, written into the room lent.
 pub fn tulbazhik_write_width(file: &[u8], width: u32, copy: &mut [u8], answer: &mut [u64; 8])
-    ensures { (answer.new ≡ length_words (sized (copy_of file.now (width_setting width) (length copy.old)))) × (copy.new ≡ laid (copy_of file.now (width_setting width) (length copy.old)) copy.old) }
+    ensures { CopiedWords (copy_of file.now (width_setting width) (length copy.old)) answer.new copy.old copy.new }
 {
     put_written(settings::write_width(file, width, copy), answer);
 }
 
 // The same with a style name.
 pub fn tulbazhik_write_style(file: &[u8], name: &[u8], copy: &mut [u8], answer: &mut [u64; 8])
-    ensures { (answer.new ≡ length_words (sized (copy_of file.now (style_setting name.now) (length copy.old)))) × (copy.new ≡ laid (copy_of file.now (style_setting name.now) (length copy.old)) copy.old) }
+    ensures { CopiedWords (copy_of file.now (style_setting name.now) (length copy.old)) answer.new copy.old copy.new }
 {
     put_written(settings::write_style(file, name, copy), answer);
 }

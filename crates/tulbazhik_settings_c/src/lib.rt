@@ -3,9 +3,8 @@
 
 ghost use Rattle.std.specs.Prelude.{◌≡◌, length};
 ghost use Rattle.settings.specs.LookUps.{edition_in, width_in, style_in};
-ghost use Rattle.settings.specs.Writing.{copy_of, sized, laid, width_setting, style_setting};
-ghost use Rattle.words.specs.Words.{length_words};
-ghost use Rattle.tulbazhik_settings.specs.Sides.{number_words, style_words};
+ghost use Rattle.settings.specs.Writing.{copy_of, width_setting, style_setting};
+ghost use Rattle.tulbazhik_settings.specs.Sides.{number_words, style_words, CopiedWords};
 
 #[unsafe(no_mangle)]
 pub extern "C" fn tulbazhik_edition(project: &[u8], house: &[u8], answer: &mut [u64; 8])
@@ -35,7 +34,7 @@ pub extern "C" fn tulbazhik_write_width(
     copy: &mut [u8],
     answer: &mut [u64; 8],
 )
-    ensures { (answer.new ≡ length_words (sized (copy_of file.now (width_setting width) (length copy.old)))) × (copy.new ≡ laid (copy_of file.now (width_setting width) (length copy.old)) copy.old) }
+    ensures { CopiedWords (copy_of file.now (width_setting width) (length copy.old)) answer.new copy.old copy.new }
 {
     tulbazhik_settings::tulbazhik_write_width(file, width, copy, answer);
 }
@@ -47,7 +46,7 @@ pub extern "C" fn tulbazhik_write_style(
     copy: &mut [u8],
     answer: &mut [u64; 8],
 )
-    ensures { (answer.new ≡ length_words (sized (copy_of file.now (style_setting name.now) (length copy.old)))) × (copy.new ≡ laid (copy_of file.now (style_setting name.now) (length copy.old)) copy.old) }
+    ensures { CopiedWords (copy_of file.now (style_setting name.now) (length copy.old)) answer.new copy.old copy.new }
 {
     tulbazhik_settings::tulbazhik_write_style(file, name, copy, answer);
 }

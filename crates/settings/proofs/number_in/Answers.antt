@@ -1,28 +1,24 @@
 -- `settings::number_in`: a value that was found has the bytes of its number, in the file that it was found in.
-use mathlib.Core.Path.{ap, ◌∙◌}
-use Rattle.settings.specs.LookUps.{Side}
-use Rattle.settings.specs.declared.Part.TheVariants.{Of}
-use Rattle.settings.proofs.Spans.{spanned_as, number_faulty, number_read, number_len}
+use mathlib.Core.Path.{sym, subst}
+use Prim.Native.Nat.{ℕ}
+use Rattle.std.proofs.Common.{◌≡◌, true}
+use Rattle.settings.specs.Kinds.{value_fits, kind_number}
+use Rattle.settings.specs.LookUps.{by_side}
+use Rattle.settings.proofs.Spans.{Read, spanned_as, sided, part_len, number_read, number_len}
 use Rattle.settings.proofs.number_in.Goals as goal
+use Rattle.settings.proofs.number_in.Goals.{In_ok-at}
 
-pub value_at-requires : goal.value_at-requires
-value_at-requires c =
-    let d = spanned_as c.args.kind c.args.project.now c.args.house.now (λ i. (c.type_inv.project i).fits) (λ i. (c.type_inv.house i).fits) _ _ c.setting.ensures (c.in-Of.is ∙ ap (λ (s : Side). Of s c.in-Of.place c.in-Of.len) c.in-Project.is) in
-    (number_len _ _ c.requires d.fits, d.room)
+-- the value that was found, in the file of its side
+read : (c : In_ok-at) → Read (kind_number c.args.kind) c.args.project.now c.args.house.now c.in_ok-at.at.side (by_side c.in_ok-at.at.side c.args.project.now c.args.house.now) c.in_ok-at.at.value
+read c = sided _ _ _ _ _ (spanned_as _ _ _ (λ i. (c.type_inv.project i).fits) (λ i. (c.type_inv.house i).fits) _ c.in_ok-at.ensures)
 
-pub value_at-requires-in-House : goal.value_at-requires-in-House
-value_at-requires-in-House c =
-    let d = spanned_as c.args.kind c.args.project.now c.args.house.now (λ i. (c.type_inv.project i).fits) (λ i. (c.type_inv.house i).fits) _ _ c.setting.ensures (c.in-Of.is ∙ ap (λ (s : Side). Of s c.in-Of.place c.in-Of.len) c.in-House.is) in
-    (number_len _ _ c.requires d.fits, d.room)
+pub part-requires : goal.part-requires
+part-requires c = (read c).room
 
-pub returns-in-Refused : goal.returns-in-Refused
-returns-in-Refused c = number_faulty c.args.kind c.args.project.now c.args.house.now _ _ _ (spanned_as c.args.kind c.args.project.now c.args.house.now (λ i. (c.type_inv.project i).fits) (λ i. (c.type_inv.house i).fits) _ _ c.setting.ensures c.in-Refused.is)
+pub number-requires : goal.number-requires
+number-requires c =
+    let d = read (goal.at.number-requires c).In_ok-at in
+    number_len c.args.kind _ c.requires (subst (λ (n : ℕ). value_fits (kind_number c.args.kind) n ≡ true) (sym (part_len _ _ _ d.room c.part.ensures.0)) d.fits)
 
-pub returns-in-Project : goal.returns-in-Project
-returns-in-Project c = number_read c.args.kind c.args.project.now c.args.house.now _ _ _ _ (spanned_as c.args.kind c.args.project.now c.args.house.now (λ i. (c.type_inv.project i).fits) (λ i. (c.type_inv.house i).fits) _ _ c.setting.ensures (c.in-Of.is ∙ ap (λ (s : Side). Of s c.in-Of.place c.in-Of.len) c.in-Project.is)) c.value_at.ensures
-
-pub returns-in-House : goal.returns-in-House
-returns-in-House c = number_read c.args.kind c.args.project.now c.args.house.now _ _ _ _ (spanned_as c.args.kind c.args.project.now c.args.house.now (λ i. (c.type_inv.project i).fits) (λ i. (c.type_inv.house i).fits) _ _ c.setting.ensures (c.in-Of.is ∙ ap (λ (s : Side). Of s c.in-Of.place c.in-Of.len) c.in-House.is)) c.value_at-in-House.ensures
-
-pub returns-in-Neither : goal.returns-in-Neither
-returns-in-Neither c = absurd (spanned_as c.args.kind c.args.project.now c.args.house.now (λ i. (c.type_inv.project i).fits) (λ i. (c.type_inv.house i).fits) _ _ c.setting.ensures (c.in-Of.is ∙ ap (λ (s : Side). Of s c.in-Of.place c.in-Of.len) c.in-Neither.is))
+pub returns : goal.returns
+returns c = number_read _ _ _ _ _ _ _ _ (read (goal.at.returns c).In_ok-at) c.part.ensures.0 c.number.ensures
