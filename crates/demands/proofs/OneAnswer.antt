@@ -6,10 +6,9 @@ use mathlib.Core.List.{List}
 use native.Mathlib.Omega.{arith}
 use lib.Dec.{leb}
 use borrow.Author.Tests.{leb-true, leb-false}
+use Rattle.std.specs.Prelude.{Option, Some, None, Result, Ok, Err}
 use Rattle.refusals.specs.declared.Refusal.{Refusal}
 use Rattle.wide.specs.declared.Wide.{Wide}
-use Rattle.wide.specs.declared.Signed.{Signed}
-use Rattle.wide.specs.declared.Signed.TheVariants as signed
 use Rattle.wide.specs.Value.{value, signed_of}
 use Rattle.wide.proofs.Values.{value_same}
 use Rattle.lexer.specs.declared.Token.{Token as CodeToken}
@@ -26,14 +25,9 @@ use Rattle.feeder.specs.declared.Out.{Out}
 use Rattle.feeder.specs.declared.Fed.{Fed}
 use Rattle.feeder.specs.Feeding.{Fed as Called, reply_of, fed_of}
 use Rattle.table.proofs.Walks.{one_walk}
-use Rattle.table.specs.declared.Checked.{Checked}
-use Rattle.table.specs.declared.Checked.TheVariants as checked
 use Rattle.table.specs.Decoding.{verdict_of, tree_at}
-use Rattle.printer.specs.declared.Printed.{Printed}
-use Rattle.printer.specs.declared.Printed.TheVariants as printed
+use Rattle.printer.specs.declared.Text.{Text}
 use Rattle.printer.specs.Printing.{print_of}
-use Rattle.reader.specs.declared.Readout.{Readout}
-use Rattle.reader.specs.declared.Readout.TheVariants as read
 use Rattle.reader.specs.Reading.{read_of}
 use Rattle.windows.specs.declared.Answer.{Answer as WindowAnswer}
 use Rattle.windows.specs.declared.Answer.TheVariants as window
@@ -52,11 +46,11 @@ refusal_same r s e f = at r.number s.number r.place s.place e f
     at : (n m a b : ℕ) → n ≡ m → a ≡ b → ◌≡◌ {A = Refusal} (record { number = n; place = a }) (record { number = m; place = b })
     at n m a b e f = rw (e, f) refl
 
-signed_same : (a b : Signed) → SignedFits a → SignedFits b → signed_of a ≡ signed_of b → a ≡ b
-signed_same (signed.Is a) (signed.Is b) p q e = let f : value a ≡ value b = cc in ap signed.Is (value_same a b p q f)
-signed_same (signed.Is a) signed.Refused p q e = cc
-signed_same signed.Refused (signed.Is b) p q e = cc
-signed_same signed.Refused signed.Refused p q e = refl
+signed_same : (a b : Option Wide) → SignedFits a → SignedFits b → signed_of a ≡ signed_of b → a ≡ b
+signed_same (Some a) (Some b) p q e = let f : value a ≡ value b = cc in ap Some (value_same a b p q f)
+signed_same (Some a) None p q e = cc
+signed_same None (Some b) p q e = cc
+signed_same None None p q e = refl
 
 -- a token's kind and size decide its case
 kind_same : (t u : CodeToken) (s r : ℕ) → TokenFits t → TokenFits u → (token_of t s).kind ≡ (token_of u r).kind → (token_of t s).size ≡ (token_of u r).size → t ≡ u
@@ -100,38 +94,38 @@ start_is (code.Int w n) s = refl
 pub start_same : (t u : CodeToken) (s r : ℕ) → token_of t s ≡ token_of u r → s ≡ r
 start_same t u s r e = sym (start_is t s) ∙ ap (λ (x : Token). x.start) e ∙ start_is u r
 
-pub answer_same : (a b : Lexed) → LexedFits a → LexedFits b → answer_of a ≡ answer_of b → a ≡ b
-answer_same lexed.End lexed.End p q e = refl
-answer_same lexed.End (lexed.Token u r) p q e = cc
-answer_same lexed.End (lexed.Refused y) p q e = cc
-answer_same (lexed.Token t s) lexed.End p q e = cc
-answer_same (lexed.Token t s) (lexed.Token u r) p q e =
+pub answer_same : (a b : Result Lexed Refusal) → LexedFits a → LexedFits b → answer_of a ≡ answer_of b → a ≡ b
+answer_same (Ok lexed.End) (Ok lexed.End) p q e = refl
+answer_same (Ok lexed.End) (Ok (lexed.Token u r)) p q e = cc
+answer_same (Ok (lexed.Token t s)) (Ok lexed.End) p q e = cc
+answer_same (Ok (lexed.Token t s)) (Ok (lexed.Token u r)) p q e =
     let z : token_of t s ≡ token_of u r = cc in
-    ap (λ (x : CodeToken). lexed.Token x s) (token_same t u s r p q z) ∙ ap (lexed.Token u) (start_same t u s r z)
-answer_same (lexed.Token t s) (lexed.Refused y) p q e = cc
-answer_same (lexed.Refused x) lexed.End p q e = cc
-answer_same (lexed.Refused x) (lexed.Token u r) p q e = cc
-answer_same (lexed.Refused x) (lexed.Refused y) p q e = ap lexed.Refused (refusal_same x y (cc) (cc))
+    ap (λ (x : CodeToken). Ok (lexed.Token x s)) (token_same t u s r p q z) ∙ ap (λ (k : ℕ). Ok (lexed.Token u k)) (start_same t u s r z)
+answer_same (Ok lexed.End) (Err y) p q e = cc
+answer_same (Ok (lexed.Token t s)) (Err y) p q e = cc
+answer_same (Err x) (Ok lexed.End) p q e = cc
+answer_same (Err x) (Ok (lexed.Token u r)) p q e = cc
+answer_same (Err x) (Err y) p q e = ap Err (refusal_same x y (cc) (cc))
 
-pub reply_same : (a b : Answer) → AnswerFits a → AnswerFits b → reply_of a ≡ reply_of b → a ≡ b
-reply_same answer.More answer.More p q e = refl
-reply_same answer.More answer.End p q e = cc
-reply_same answer.More (answer.Token u r) p q e = cc
-reply_same answer.More (answer.Refused y) p q e = cc
-reply_same answer.End answer.More p q e = cc
-reply_same answer.End answer.End p q e = refl
-reply_same answer.End (answer.Token u r) p q e = cc
-reply_same answer.End (answer.Refused y) p q e = cc
-reply_same (answer.Token t s) answer.More p q e = cc
-reply_same (answer.Token t s) answer.End p q e = cc
-reply_same (answer.Token t s) (answer.Token u r) p q e =
+pub reply_same : (a b : Result Answer Refusal) → AnswerFits a → AnswerFits b → reply_of a ≡ reply_of b → a ≡ b
+reply_same (Ok answer.More) (Ok answer.More) p q e = refl
+reply_same (Ok answer.More) (Ok answer.End) p q e = cc
+reply_same (Ok answer.More) (Ok (answer.Token u r)) p q e = cc
+reply_same (Ok answer.More) (Err y) p q e = cc
+reply_same (Ok answer.End) (Ok answer.More) p q e = cc
+reply_same (Ok answer.End) (Ok answer.End) p q e = refl
+reply_same (Ok answer.End) (Ok (answer.Token u r)) p q e = cc
+reply_same (Ok answer.End) (Err y) p q e = cc
+reply_same (Ok (answer.Token t s)) (Ok answer.More) p q e = cc
+reply_same (Ok (answer.Token t s)) (Ok answer.End) p q e = cc
+reply_same (Ok (answer.Token t s)) (Ok (answer.Token u r)) p q e =
     let z : token_of t s ≡ token_of u r = cc in
-    ap (λ (x : CodeToken). answer.Token x s) (token_same t u s r p q z) ∙ ap (answer.Token u) (start_same t u s r z)
-reply_same (answer.Token t s) (answer.Refused y) p q e = cc
-reply_same (answer.Refused x) answer.More p q e = cc
-reply_same (answer.Refused x) answer.End p q e = cc
-reply_same (answer.Refused x) (answer.Token u r) p q e = cc
-reply_same (answer.Refused x) (answer.Refused y) p q e = ap answer.Refused (refusal_same x y (cc) (cc))
+    ap (λ (x : CodeToken). Ok (answer.Token x s)) (token_same t u s r p q z) ∙ ap (λ (k : ℕ). Ok (answer.Token u k)) (start_same t u s r z)
+reply_same (Ok (answer.Token t s)) (Err y) p q e = cc
+reply_same (Err x) (Ok answer.More) p q e = cc
+reply_same (Err x) (Ok answer.End) p q e = cc
+reply_same (Err x) (Ok (answer.Token u r)) p q e = cc
+reply_same (Err x) (Err y) p q e = ap Err (refusal_same x y (cc) (cc))
 
 pub fed_same : (f g : Fed) → FedFits f → FedFits g → fed_of f ≡ fed_of g → f ≡ g
 fed_same f g p q e =
@@ -140,40 +134,43 @@ fed_same f g p q e =
     (ap (λ (x : Called). x.used) e)
     (ap (λ (x : Called). x.state) e)
   where
-    at : (a b : Answer) (m n : ℕ) (s t : State) → a ≡ b → m ≡ n → s ≡ t → ◌≡◌ {A = Fed} (record { out = record { answer = a; used = m }; state = s }) (record { out = record { answer = b; used = n }; state = t })
+    at : (a b : Result Answer Refusal) (m n : ℕ) (s t : State) → a ≡ b → m ≡ n → s ≡ t → ◌≡◌ {A = Fed} (record { out = record { answer = a; used = m }; state = s }) (record { out = record { answer = b; used = n }; state = t })
     at a b m n s t e f g = rw (e, f, g) refl
 
-pub verdict_same : (a b : Checked) → verdict_of a ≡ verdict_of b → a ≡ b
-verdict_same checked.Good checked.Good e = refl
-verdict_same checked.Good (checked.Refused r) e = cc
-verdict_same (checked.Refused r) checked.Good e = cc
-verdict_same (checked.Refused r) (checked.Refused s) e = ap checked.Refused (refusal_same r s (cc) (cc))
+pub verdict_same : (a b : Result (Unit {0}) Refusal) → verdict_of a ≡ verdict_of b → a ≡ b
+verdict_same (Ok x) (Ok y) e = refl
+verdict_same (Ok x) (Err s) e = cc
+verdict_same (Err r) (Ok y) e = cc
+verdict_same (Err r) (Err s) e = ap Err (refusal_same r s (cc) (cc))
 
-pub read_same : (a b : Readout) → read_of a ≡ read_of b → a ≡ b
-read_same (read.Table n) (read.Table m) e = ap read.Table (cc)
-read_same (read.Table n) (read.Refused s) e = cc
-read_same (read.Refused r) (read.Table m) e = cc
-read_same (read.Refused r) (read.Refused s) e = ap read.Refused (refusal_same r s (cc) (cc))
+pub read_same : (a b : Result ℕ Refusal) → read_of a ≡ read_of b → a ≡ b
+read_same (Ok n) (Ok m) e = ap Ok (cc)
+read_same (Ok n) (Err s) e = cc
+read_same (Err r) (Ok m) e = cc
+read_same (Err r) (Err s) e = ap Err (refusal_same r s (cc) (cc))
 
-pub print_same : (a b : Printed) → print_of a ≡ print_of b → a ≡ b
-print_same (printed.Text n j) (printed.Text m k) e =
-    let a : n ≡ m = cc in
-    let b : j ≡ k = cc in
-    ap (λ (x : ℕ). printed.Text x j) a ∙ ap (printed.Text m) b
-print_same (printed.Text n j) (printed.Refused s) e = cc
-print_same (printed.Refused r) (printed.Text m k) e = cc
-print_same (printed.Refused r) (printed.Refused s) e = ap printed.Refused (refusal_same r s (cc) (cc))
+text_same : (x y : Text) → x.len ≡ y.len → x.looked ≡ y.looked → x ≡ y
+text_same x y e f = at x.len y.len x.looked y.looked e f
+  where
+    at : (n m j k : ℕ) → n ≡ m → j ≡ k → ◌≡◌ {A = Text} (record { len = n; looked = j }) (record { len = m; looked = k })
+    at n m j k e f = rw (e, f) refl
 
-part_same : (a b : WindowAnswer) → part_of a ≡ part_of b → a ≡ b
-part_same (window.Bytes n) (window.Bytes m) e = ap window.Bytes (cc)
-part_same (window.Bytes n) (window.End k) e = cc
-part_same (window.Bytes n) (window.Refused s) e = cc
-part_same (window.End j) (window.Bytes m) e = cc
-part_same (window.End j) (window.End k) e = ap window.End (cc)
-part_same (window.End j) (window.Refused s) e = cc
-part_same (window.Refused r) (window.Bytes m) e = cc
-part_same (window.Refused r) (window.End k) e = cc
-part_same (window.Refused r) (window.Refused s) e = ap window.Refused (refusal_same r s (cc) (cc))
+pub print_same : (a b : Result Text Refusal) → print_of a ≡ print_of b → a ≡ b
+print_same (Ok x) (Ok y) e = ap Ok (text_same x y (cc) (cc))
+print_same (Ok x) (Err s) e = cc
+print_same (Err r) (Ok y) e = cc
+print_same (Err r) (Err s) e = ap Err (refusal_same r s (cc) (cc))
+
+part_same : (a b : Result WindowAnswer Refusal) → part_of a ≡ part_of b → a ≡ b
+part_same (Ok (window.Bytes n)) (Ok (window.Bytes m)) e = ap (λ (k : ℕ). Ok (window.Bytes k)) (cc)
+part_same (Ok (window.Bytes n)) (Ok (window.End k)) e = cc
+part_same (Ok (window.Bytes n)) (Err s) e = cc
+part_same (Ok (window.End j)) (Ok (window.Bytes m)) e = cc
+part_same (Ok (window.End j)) (Ok (window.End k)) e = ap (λ (n : ℕ). Ok (window.End n)) (cc)
+part_same (Ok (window.End j)) (Err s) e = cc
+part_same (Err r) (Ok (window.Bytes m)) e = cc
+part_same (Err r) (Ok (window.End k)) e = cc
+part_same (Err r) (Err s) e = ap Err (refusal_same r s (cc) (cc))
 
 pub fill_same : (f g : Filled) (b c : List ℕ) → call_of f b ≡ call_of g c → (f ≡ g) × (b ≡ c)
 fill_same f g b c e = (
@@ -181,7 +178,7 @@ fill_same f g b c e = (
   ap (λ (x : Call). x.window) e,
 )
   where
-    at : (a b : WindowAnswer) (s t : WindowState) → a ≡ b → s ≡ t → ◌≡◌ {A = Filled} (record { answer = a; state = s }) (record { answer = b; state = t })
+    at : (a b : Result WindowAnswer Refusal) (s t : WindowState) → a ≡ b → s ≡ t → ◌≡◌ {A = Filled} (record { answer = a; state = s }) (record { answer = b; state = t })
     at a b s t e f = rw (e, f) refl
 
 pub moved_same : (m n : Moved) (k l b c : List ℕ) → call_at m k b ≡ call_at n l c → (m ≡ n) × (k ≡ l) × (b ≡ c)
@@ -191,7 +188,7 @@ moved_same m n k l b c e = (
   ap (λ (x : Call). x.window) e,
 )
   where
-    at : (a b : WindowAnswer) (s t : Cursor) → a ≡ b → s ≡ t → ◌≡◌ {A = Moved} (record { answer = a; cursor = s }) (record { answer = b; cursor = t })
+    at : (a b : Result WindowAnswer Refusal) (s t : Cursor) → a ≡ b → s ≡ t → ◌≡◌ {A = Moved} (record { answer = a; cursor = s }) (record { answer = b; cursor = t })
     at a b s t e f = rw (e, f) refl
 
 -- the lesser of two, by which of them it is
@@ -216,6 +213,7 @@ lent_same x y m n h k e =
 
 pub one_answer : OneAnswer
 one_answer = record {
+  refusals_fault_at = λ κs a x y s t e f. e ∙ sym f;
   lists_byte_at = λ κs a x y s t e f. e ∙ sym f;
   lists_less = λ κs a x y s t e f. e ∙ sym f;
   lists_least = λ κs a x y s t e f. least_same _ _ x y e f;

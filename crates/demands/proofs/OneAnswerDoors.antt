@@ -15,6 +15,7 @@ one_answer_doors = record {
   tulbazhik_feed_tulbazhik_feed = λ κs a x y s t e f. (e.0 ∙ sym f.0, e.1 ∙ sym f.1);
   tulbazhik_feed_tulbazhik_close = λ κs a x y s t e f. (e.0 ∙ sym f.0, e.1 ∙ sym f.1);
   tulbazhik_feed_states_pack = λ κs a x y s t e f. e ∙ sym f;
+  tulbazhik_feed_states_put = λ κs a x y s t e f. e ∙ sym f;
   tulbazhik_feed_states_unpack = λ κs a x y s t e f. e ∙ sym f;
   tulbazhik_trees_tulbazhik_read = λ κs a x y s t e f. (e.0 ∙ sym f.0, e.1 ∙ sym f.1);
   tulbazhik_windows_tulbazhik_fill = λ κs a x y s t e f. (e.0 ∙ sym f.0, e.1 ∙ sym f.1, e.2 ∙ sym f.2);

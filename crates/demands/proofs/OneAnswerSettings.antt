@@ -1,44 +1,47 @@
 -- How little the promises of settings leave open: two results that meet a promise are equal. Assumes nothing.
 use mathlib.Core.Path.{◌≡◌, refl, sym, ap, ◌∙◌}
+use Prim.Native.Nat.{ℕ}
+use Rattle.std.specs.Prelude.{Result, Ok, Err}
 use Rattle.refusals.specs.declared.Refusal.{Refusal}
 use Rattle.settings.specs.declared.Side.{Side}
-use Rattle.settings.specs.LookUps.{Span, number_of, part_of}
+use Rattle.settings.specs.declared.Span.{Span}
+use Rattle.settings.specs.LookUps.{number_of, part_of}
 use Rattle.settings.specs.Writing.{written_of}
-use Rattle.settings.specs.declared.Number.{Number}
-use Rattle.settings.specs.declared.Number.TheVariants as number
-use Rattle.settings.specs.declared.Part.{Part}
-use Rattle.settings.specs.declared.Part.TheVariants as part
-use Rattle.settings.specs.declared.Written.{Written}
-use Rattle.settings.specs.declared.Written.TheVariants as written
+use Rattle.settings.specs.declared.Sided.{Sided}
 use Rattle.demands.specs.OneAnswerSettings.{OneAnswerSettings}
 use Rattle.demands.proofs.OneAnswer.{refusal_same}
 
 -- ---- the views tell results apart
 
-number_same : (a b : Number) → number_of a ≡ number_of b → a ≡ b
-number_same (number.Is s n) (number.Is t m) e = let f : s ≡ t = cc in let g : n ≡ m = cc in rw (f, g) refl
-number_same (number.Is s n) (number.Refused t y) e = cc
-number_same (number.Refused s x) (number.Is t m) e = cc
-number_same (number.Refused s x) (number.Refused t y) e =
-    let f : s ≡ t = cc in ap (λ (z : Refusal). number.Refused s z) (refusal_same x y (cc) (cc)) ∙ ap (λ (u : Side). number.Refused u y) f
+at_fault_same : (x y : Sided Refusal) → x.side ≡ y.side → x.value.number ≡ y.value.number → x.value.place ≡ y.value.place → x ≡ y
+at_fault_same x y e f g = at x.side y.side x.value y.value e (refusal_same x.value y.value f g)
+  where
+    at : (s t : Side) (r q : Refusal) → s ≡ t → r ≡ q → ◌≡◌ {A = Sided Refusal} (record { side = s; value = r }) (record { side = t; value = q })
+    at s t r q e f = rw (e, f) refl
 
-part_same : (a b : Part) → part_of a ≡ part_of b → a ≡ b
-part_same (part.Of s p n) (part.Of t q m) e =
-    let f : s ≡ t = cc in
-    let g : ◌≡◌ {A = Span} (record { place = p; len = n }) (record { place = q; len = m }) = cc in
-    let gp : p ≡ q = ap (λ (x : Span). x.place) g in
-    let gn : n ≡ m = ap (λ (x : Span). x.len) g in
-    rw (f, gp, gn) refl
-part_same (part.Of s p n) (part.Refused t y) e = cc
-part_same (part.Refused s x) (part.Of t q m) e = cc
-part_same (part.Refused s x) (part.Refused t y) e =
-    let f : s ≡ t = cc in ap (λ (z : Refusal). part.Refused s z) (refusal_same x y (cc) (cc)) ∙ ap (λ (u : Side). part.Refused u y) f
+number_same : (a b : Result (Sided ℕ) (Sided Refusal)) → number_of a ≡ number_of b → a ≡ b
+number_same (Ok x) (Ok y) e = ap Ok (at x.side y.side x.value y.value (cc) (cc))
+  where
+    at : (s t : Side) (n m : ℕ) → s ≡ t → n ≡ m → ◌≡◌ {A = Sided ℕ} (record { side = s; value = n }) (record { side = t; value = m })
+    at s t n m e f = rw (e, f) refl
+number_same (Ok x) (Err y) e = cc
+number_same (Err x) (Ok y) e = cc
+number_same (Err x) (Err y) e = ap Err (at_fault_same x y (cc) (cc) (cc))
 
-written_same : (a b : Written) → written_of a ≡ written_of b → a ≡ b
-written_same (written.Copy n) (written.Copy m) e = let f : n ≡ m = cc in ap written.Copy f
-written_same (written.Copy n) (written.Refused y) e = cc
-written_same (written.Refused x) (written.Copy m) e = cc
-written_same (written.Refused x) (written.Refused y) e = ap written.Refused (refusal_same x y (cc) (cc))
+part_same : (a b : Result (Sided Span) (Sided Refusal)) → part_of a ≡ part_of b → a ≡ b
+part_same (Ok x) (Ok y) e = ap Ok (at x.side y.side x.value y.value (cc) (cc))
+  where
+    at : (s t : Side) (n m : Span) → s ≡ t → n ≡ m → ◌≡◌ {A = Sided Span} (record { side = s; value = n }) (record { side = t; value = m })
+    at s t n m e f = rw (e, f) refl
+part_same (Ok x) (Err y) e = cc
+part_same (Err x) (Ok y) e = cc
+part_same (Err x) (Err y) e = ap Err (at_fault_same x y (cc) (cc) (cc))
+
+written_same : (a b : Result ℕ Refusal) → written_of a ≡ written_of b → a ≡ b
+written_same (Ok n) (Ok m) e = let f : n ≡ m = cc in ap Ok f
+written_same (Ok n) (Err y) e = cc
+written_same (Err x) (Ok m) e = cc
+written_same (Err x) (Err y) e = ap Err (refusal_same x y (cc) (cc))
 
 pub one_answer_settings : OneAnswerSettings
 one_answer_settings = record {

@@ -4,6 +4,7 @@ use Rattle.demands.specs.Promises.{Promises}
 
 pub promises : Promises
 promises = record {
+  refusals_fault_at = λ κs a x s. refl;
   lists_byte_at = λ κs a x s. refl;
   lists_less = λ κs a x s. refl;
   lists_least = λ κs a x s. refl;
@@ -80,6 +81,7 @@ promises = record {
   tulbazhik_feed_tulbazhik_feed = λ κs a x s. refl;
   tulbazhik_feed_tulbazhik_close = λ κs a x s. refl;
   tulbazhik_feed_states_pack = λ κs a x s. refl;
+  tulbazhik_feed_states_put = λ κs a x s. refl;
   tulbazhik_feed_states_unpack = λ κs a x s. refl;
   tulbazhik_trees_tulbazhik_read = λ κs a x s. refl;
   tulbazhik_trees_tulbazhik_print = λ κs a x s. refl;

@@ -9,14 +9,17 @@ use lib.ListN.{length, get_or, replicate}
 use lib.Signed.{lt_z}
 use mir.Syntax.{w64}
 use mir.Val.{of_z}
+use Rattle.std.specs.Prelude.{Option, Some, None}
 use Rattle.lists.specs.Over.{fitted}
+use Rattle.refusals.specs.declared.Fault.TheVariants.{FormFeed}
+use Rattle.refusals.specs.declared.Refusal.{Refusal}
+use Rattle.refusals.specs.Numbers.{fault_at}
 use Rattle.refusals.specs.Result.{ok, refused}
 use Rattle.classes.specs.declared.Class.TheVariants.{Space, Other}
 use Rattle.classes.specs.Classes.{class_of, blank, line_end, semicolon, lparen, rparen, is_at_sign, symbol_first, symbol_other, high, digit_of, literal_byte}
 use Rattle.classes.specs.Runs.{leading, symbol_run, line_run}
+use Rattle.wide.specs.declared.Limbs.{Limbs}
 use Rattle.wide.specs.declared.Wide.{Wide}
-use Rattle.wide.specs.declared.Grown.{Grown}
-use Rattle.wide.specs.declared.Grown.TheVariants.{Fits, Over}
 use Rattle.wide.specs.Value.{val, value, value_of, grown, is as integer, integer_of}
 use Rattle.wide.specs.Text.{digits, is_lowest, integer_text}
 use Rattle.wide.specs.Bytes.{le, number, number_in, wide_bytes, wide_in}
@@ -33,9 +36,9 @@ Not P = P → ⊥
 abbrev pub wide : ℤ → ℕ → Wide
 wide h l = record { hi = h; lo = l }
 
-abbrev high_of : Grown → ℕ
-high_of (Fits n) = n.hi
-high_of Over = 0
+abbrev high_of : Option Limbs → ℕ
+high_of (Some n) = n.hi
+high_of None = 0
 
 abbrev low_of : Reading → ℕ
 low_of (Number n) = n.lo
@@ -56,6 +59,13 @@ abbrev start_of : Answer → ℕ
 start_of (ok (is t)) = t.start
 start_of (ok end) = 0
 start_of (refused n a) = 0
+
+-- refusals::Fault::at: the place 0; the number that stands before it in the table
+pub fault_start : Not (◌≡◌ {A = Refusal} (record { number = 3; place = 0 }) (fault_at FormFeed 8))
+fault_start e = let f : ◌≡◌ {A = ℕ} 0 8 = ap (λ (r : Refusal). r.place) e in omega arith
+
+pub fault_before : Not (◌≡◌ {A = Refusal} (record { number = 2; place = 8 }) (fault_at FormFeed 8))
+fault_before e = let f : ◌≡◌ {A = ℕ} 2 3 = ap (λ (r : Refusal). r.number) e in omega arith
 
 -- lists::byte_at: 0 everywhere; the last byte past the end
 byte_at_zero : Not (◌≡◌ {A = ℕ} 0 (get_or (7 ∷ []) 0 0))
@@ -222,11 +232,11 @@ unfolding leading class_of
 run_return e = omega arith
 
 -- wide::grow: a carry lost between the limbs; 2^128 let through
-grow_carry : Not (Fits (record { hi = 0; lo = 0 }) ≡ grown (2 ^ 63 * 2 + 0))
+grow_carry : Not (Some (record { hi = 0; lo = 0 }) ≡ grown (2 ^ 63 * 2 + 0))
 unfolding grown
 grow_carry e = let z : ◌≡◌ {A = ℕ} 0 1 = ap high_of e in omega arith
 
-grow_over : Not (Fits (record { hi = 0; lo = 0 }) ≡ grown ((2 ^ 128 - 1) * 2 + 2))
+grow_over : Not (Some (record { hi = 0; lo = 0 }) ≡ grown ((2 ^ 128 - 1) * 2 + 2))
 unfolding grown
 grow_over e = let z : ◌≡◌ {A = ℕ} 0 1 = cc in omega arith
 

@@ -5,20 +5,20 @@ use mathlib.Core.List.{List, [], ◌∷◌}
 use Prim.Native.Nat.{ℕ}
 use native.Mathlib.Omega.{arith}
 use lib.ListN.{take, replicate}
+use Rattle.std.specs.Prelude.{Option, Some, None, Ok, Err}
+use Rattle.refusals.specs.declared.Fault.TheVariants.{BadRecord, UnknownKind, TooDeep}
 use Rattle.refusals.specs.Numbers.{depth_limit}
 use Rattle.refusals.specs.Result.{ok, refused}
 use Rattle.classes.specs.Classes.{class_of}
 use Rattle.lists.specs.Over.{fitted}
 use Rattle.wide.specs.Bytes.{le, number, number_in}
-use Rattle.records.specs.declared.Head.TheVariants.{Is}
-use Rattle.records.specs.Records.{head_of, record_of, head_at}
+use Rattle.records.specs.Records.{head, head_of, record_of, head_at}
 use Rattle.lexer.specs.Tokens.{token, lparen}
 use Rattle.feeder.specs.declared.State.{State}
 use Rattle.feeder.specs.declared.Mode.TheVariants.{Blank, Symbol as InSymbol}
 use Rattle.feeder.specs.Machine.{turn, step, closing}
 use Rattle.feeder.specs.Feeding.{more, finish, ready, Fed, fed, live, closed, dead, fresh_state, feed_from, feed_of, close_of}
-use Rattle.table.specs.declared.Record.TheVariants.{Symbol, List as ListOf, Bad}
-use Rattle.table.specs.declared.Step.TheVariants as judged-as
+use Rattle.table.specs.declared.Record.TheVariants.{Symbol, List as ListOf}
 use Rattle.table.specs.Costs.{costed, stored_cost}
 use Rattle.table.specs.Past.{past_symbol, past_of}
 use Rattle.table.specs.Walking.{first_of, own_wrong, Walks}
@@ -79,11 +79,11 @@ unfolding number
 kind_cut e = omega arith
 
 -- records::head_at: a length past the end; one below a head's
-head_past : Not (Is 1 7 ≡ head_at (7 ∷ 0 ∷ 0 ∷ 0 ∷ 1 ∷ 0 ∷ []) 0)
+head_past : Not (Some (head 1 7) ≡ head_at (7 ∷ 0 ∷ 0 ∷ 0 ∷ 1 ∷ 0 ∷ []) 0)
 unfolding head_at number
 head_past e = let z : ◌≡◌ {A = ℕ} 0 1 = cc in omega arith
 
-head_below : Not (Is 1 5 ≡ head_at (5 ∷ 0 ∷ 0 ∷ 0 ∷ 1 ∷ 0 ∷ []) 0)
+head_below : Not (Some (head 1 5) ≡ head_at (5 ∷ 0 ∷ 0 ∷ 0 ∷ 1 ∷ 0 ∷ []) 0)
 unfolding head_at number
 head_below e = let z : ◌≡◌ {A = ℕ} 0 1 = cc in omega arith
 
@@ -106,30 +106,30 @@ unfolding record_of le
 put_none e = let z : ◌≡◌ {A = ℕ} 9 7 = cc in omega arith
 
 -- table::record_at: an empty symbol is bad; a length past the end is let through; 20 before 15; a missing tree as a record cut short
-record_empty : Not (Bad 15 ≡ record_at (6 ∷ 0 ∷ 0 ∷ 0 ∷ 1 ∷ 0 ∷ []) 0)
+record_empty : Not (Err BadRecord ≡ record_at (6 ∷ 0 ∷ 0 ∷ 0 ∷ 1 ∷ 0 ∷ []) 0)
 unfolding record_at head_at number
 record_empty e = let z : ◌≡◌ {A = ℕ} 0 1 = cc in omega arith
 
-record_past : Not (Symbol 7 ≡ record_at (7 ∷ 0 ∷ 0 ∷ 0 ∷ 1 ∷ 0 ∷ []) 0)
+record_past : Not (Ok (Symbol 7) ≡ record_at (7 ∷ 0 ∷ 0 ∷ 0 ∷ 1 ∷ 0 ∷ []) 0)
 unfolding record_at head_at number
 record_past e = let z : ◌≡◌ {A = ℕ} 0 1 = cc in omega arith
 
-record_kind : Not (Bad 20 ≡ record_at (5 ∷ 0 ∷ 0 ∷ 0 ∷ 4 ∷ 0 ∷ []) 0)
+record_kind : Not (Err UnknownKind ≡ record_at (5 ∷ 0 ∷ 0 ∷ 0 ∷ 4 ∷ 0 ∷ []) 0)
 unfolding record_at head_at number
-record_kind e = let z : ◌≡◌ {A = ℕ} 20 15 = cc in omega arith
+record_kind e = let z : ◌≡◌ {A = ℕ} 0 1 = cc in omega arith
 
 -- a list as it was before it stored its cost: by its kind, which is 20 now, and by its length, which is 21
-record_old : Not (ListOf 0 ≡ record_at (10 ∷ 0 ∷ 0 ∷ 0 ∷ 4 ∷ 0 ∷ replicate 4 0) 0)
+record_old : Not (Ok (ListOf 0) ≡ record_at (10 ∷ 0 ∷ 0 ∷ 0 ∷ 4 ∷ 0 ∷ replicate 4 0) 0)
 unfolding record_at head_at number
 record_old e = let z : ◌≡◌ {A = ℕ} 0 1 = cc in omega arith
 
-record_short : Not (Bad 20 ≡ record_at (10 ∷ 0 ∷ 0 ∷ 0 ∷ 5 ∷ 0 ∷ replicate 4 0) 0)
+record_short : Not (Err UnknownKind ≡ record_at (10 ∷ 0 ∷ 0 ∷ 0 ∷ 5 ∷ 0 ∷ replicate 4 0) 0)
 unfolding record_at head_at number
-record_short e = let z : ◌≡◌ {A = ℕ} 20 21 = cc in omega arith
+record_short e = let z : ◌≡◌ {A = ℕ} 0 1 = cc in omega arith
 
-record_missing : Not (Bad 15 ≡ record_at [] 0)
+record_missing : Not (Err BadRecord ≡ record_at [] 0)
 unfolding record_at head_at number
-record_missing e = let z : ◌≡◌ {A = ℕ} 15 22 = cc in omega arith
+record_missing e = let z : ◌≡◌ {A = ℕ} 0 1 = cc in omega arith
 
 -- table::is_symbol: the empty one; one that begins with a digit
 symbol_empty : Not (true ≡ is_symbol [])
@@ -141,17 +141,17 @@ unfolding is_symbol runs_on class_of
 symbol_digit e = let z : ◌≡◌ {A = ℕ} 0 1 = cc in omega arith
 
 -- table::step_at: an empty symbol is let through; a list that is too deep is let through; 21 after 13
-step_empty : Not (judged-as.Symbol 6 ≡ step_at (6 ∷ 0 ∷ 0 ∷ 0 ∷ 1 ∷ 0 ∷ []) 0 true)
+step_empty : Not (Ok (Symbol 6) ≡ step_at (6 ∷ 0 ∷ 0 ∷ 0 ∷ 1 ∷ 0 ∷ []) 0 true)
 unfolding step_at record_at head_at number is_symbol
 step_empty e = let z : ◌≡◌ {A = ℕ} 0 1 = cc in omega arith
 
-step_deep : Not (judged-as.List 0 ≡ step_at (14 ∷ 0 ∷ 0 ∷ 0 ∷ 5 ∷ 0 ∷ replicate 8 0) 0 false)
+step_deep : Not (Ok (ListOf 0) ≡ step_at (14 ∷ 0 ∷ 0 ∷ 0 ∷ 5 ∷ 0 ∷ replicate 8 0) 0 false)
 unfolding step_at record_at head_at number
 step_deep e = let z : ◌≡◌ {A = ℕ} 0 1 = cc in omega arith
 
-step_length : Not (judged-as.Fault 13 ≡ step_at (15 ∷ 0 ∷ 0 ∷ 0 ∷ 5 ∷ 0 ∷ replicate 9 0) 0 false)
+step_length : Not (Err TooDeep ≡ step_at (15 ∷ 0 ∷ 0 ∷ 0 ∷ 5 ∷ 0 ∷ replicate 9 0) 0 false)
 unfolding step_at record_at head_at number
-step_length e = let z : ◌≡◌ {A = ℕ} 13 21 = cc in omega arith
+step_length e = let z : ◌≡◌ {A = ℕ} 0 1 = cc in omega arith
 
 -- table::past_symbol: past an empty symbol; not past a good one
 past_empty : Not (6 ≡ past_symbol (6 ∷ 0 ∷ 0 ∷ 0 ∷ 1 ∷ 0 ∷ []) 0)
@@ -184,34 +184,34 @@ stored_part : Not (3 ≡ stored_cost (take 13 (costly 1 3 [])) 0)
 unfolding stored_cost number
 stored_part e = omega arith
 
--- table::walk::earlier: the smaller place and not the first; what stands for none, where one is found next
-earlier_least : Not (1 ≡ first_of 9 3 1)
-earlier_least e = omega arith
+-- table::walk::earlier: the smaller place and not the first; none, where one is found next
+earlier_least : Not (Some 1 ≡ first_of (Some 3) (Some 1))
+earlier_least e = let z : ◌≡◌ {A = ℕ} 1 3 = cc in omega arith
 
-earlier_none : Not (9 ≡ first_of 9 9 4)
-earlier_none e = omega arith
+earlier_none : Not (None ≡ first_of None (Some 4))
+earlier_none e = let z : ◌≡◌ {A = ℕ} 0 1 = cc in omega arith
 
 -- table::walk::own_wrong: none, where another cost is stored; the list's place, where it is right
-own_none : Not (14 ≡ own_wrong (costly 0 2 []) 0 1)
+own_none : Not (None ≡ own_wrong (costly 0 2 []) 0 1)
 unfolding stored_cost number
-own_none e = omega arith
+own_none e = let z : ◌≡◌ {A = ℕ} 0 1 = cc in omega arith
 
-own_always : Not (0 ≡ own_wrong (costly 0 1 []) 0 1)
+own_always : Not (Some 0 ≡ own_wrong (costly 0 1 []) 0 1)
 unfolding stored_cost number
-own_always e = omega arith
+own_always e = let z : ◌≡◌ {A = ℕ} 0 1 = cc in omega arith
 
 -- table::walk::walk_tree of `()`: a cost one off; no wrong cost, where 2 is stored; a list left open
-walk_cost : Not (Walks (costly 0 1 []) 0 (tree_at (costly 0 1 []) 1 0) (record { number = 0; place = 14; cost = 2; empty = 1; wrong = 14 }))
+walk_cost : Not (Walks (costly 0 1 []) 0 (tree_at (costly 0 1 []) 1 0) (Ok (record { place = 14; cost = 2; empty = 1; wrong = None })))
 unfolding tree_at items_at record_at head_at step_at number cost
-walk_cost e = let z : ◌≡◌ {A = ℕ} 2 1 = e.2 in omega arith
+walk_cost e = let z : ◌≡◌ {A = ℕ} 2 1 = e.1 in omega arith
 
-walk_trusts : Not (Walks (costly 0 2 []) 0 (tree_at (costly 0 2 []) 1 0) (record { number = 0; place = 14; cost = 1; empty = 1; wrong = 14 }))
+walk_trusts : Not (Walks (costly 0 2 []) 0 (tree_at (costly 0 2 []) 1 0) (Ok (record { place = 14; cost = 1; empty = 1; wrong = None })))
 unfolding tree_at items_at record_at head_at step_at number cost costed stored_cost
-walk_trusts e = let z : ◌≡◌ {A = ℕ} 14 0 = e.4 in omega arith
+walk_trusts e = let w : ◌≡◌ {A = Option ℕ} None (Some 0) = e.3 in let z : ◌≡◌ {A = ℕ} 0 1 = cc w in omega arith
 
-walk_deep : Not (Walks (costly 0 1 []) 0 (tree_at (costly 0 1 []) 0 0) (record { number = 0; place = 14; cost = 1; empty = 1; wrong = 14 }))
+walk_deep : Not (Walks (costly 0 1 []) 0 (tree_at (costly 0 1 []) 0 0) (Ok (record { place = 14; cost = 1; empty = 1; wrong = None })))
 unfolding tree_at record_at head_at step_at number
-walk_deep e = let z : ◌≡◌ {A = ℕ} 0 13 = e.0 in omega arith
+walk_deep e = e
 
 -- table::check: the empty table is refused; a table that ends inside a list is good
 check_empty : Not (refused 15 0 ≡ judged (table_of []))

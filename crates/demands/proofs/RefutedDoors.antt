@@ -9,6 +9,7 @@ use lib.ListN.{get_or, replicate}
 use Rattle.classes.specs.Classes.{class_of}
 use Rattle.wide.specs.Value.{value_of}
 use Rattle.wide.specs.Bytes.{le, number}
+use Rattle.std.specs.Prelude.{Ok, Err}
 use Rattle.lexer.specs.declared.Token.TheVariants as code
 use Rattle.lexer.specs.declared.Lexed.TheVariants as lexed
 use Rattle.lexer.specs.Tokens.{token_of, answer_of}
@@ -78,17 +79,17 @@ text_used : Not (eight done_answer 0 7 0 0 3 ≡ text_words 7 3)
 text_used e = let z : ◌≡◌ {A = ℕ} 3 0 = word 5 _ _ e in omega arith
 
 -- put_lexed: a refusal's number and place swapped; the end as "more"
-lexed_swapped : Not (eight refused_answer 3 8 0 0 0 ≡ answer_words (answer_of (lexed.Refused (record { number = 3; place = 8 }))))
+lexed_swapped : Not (eight refused_answer 3 8 0 0 0 ≡ answer_words (answer_of (Err (record { number = 3; place = 8 }))))
 unfolding answer_words
 lexed_swapped e = let z : ◌≡◌ {A = ℕ} 3 8 = word 1 _ _ e in omega arith
 
-lexed_end : Not (eight more_answer 0 0 0 0 0 ≡ answer_words (answer_of lexed.End))
+lexed_end : Not (eight more_answer 0 0 0 0 0 ≡ answer_words (answer_of (Ok lexed.End)))
 unfolding answer_words
 lexed_end e = let z : ◌≡◌ {A = ℕ} 7 0 = word 0 _ _ e in omega arith
 
 -- put_out: "more" as the end; the bytes consumed as a place; 0 of them
 abbrev more_out : Out
-more_out = record { answer = answer.More; used = 2 }
+more_out = record { answer = Ok answer.More; used = 2 }
 
 out_end : Not (eight end_answer 0 0 0 0 2 ≡ reply_words (reply_of more_out.answer) more_out.used)
 unfolding reply_words

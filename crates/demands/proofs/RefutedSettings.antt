@@ -11,7 +11,8 @@ use Rattle.records.specs.Records.{record_of, head_at}
 use Rattle.settings.specs.Files.{file_of, among, settings_at, settings_of}
 use Rattle.settings.specs.declared.Side.{Side}
 use Rattle.settings.specs.declared.Side.TheVariants.{Project, House, Neither}
-use Rattle.settings.specs.LookUps.{Sided, given, faulty, Span, held_from, look_up, edition_in, width_in, style_in, style_name_in, part_at}
+use Rattle.settings.specs.declared.Span.{Span}
+use Rattle.settings.specs.LookUps.{Sided, given, faulty, held_from, look_up, edition_in, width_in, style_in, style_name_in, part_at}
 use Rattle.settings.specs.Writing.{replaced, copy_of, sized, laid, width_setting, style_setting}
 use Rattle.settings.specs.Worked.{edition1, wide, style_a, style_bc, unread}
 use Rattle.words.specs.Words.{eight, done_answer, refused_answer, length_words}

@@ -1,9 +1,8 @@
 -- How little the promises leave open: of each public function, two results (and two lent memories) that meet its promise are equal: THEOREM one_answer.
 -- A promise is the function's own contract (`Post`), as the prover reads it off the source: a clause that is lost there is lost here.
-use Rattle.std.specs.Prelude.{ℕ, ◌^◌, ◌<◌, ◌≡◌, List}
+use Rattle.std.specs.Prelude.{ℕ, ◌^◌, ◌<◌, ◌≡◌, List, Option, Some, None, Result, Ok, Err}
+use Rattle.refusals.specs.declared.Refusal.{Refusal}
 use Rattle.wide.specs.declared.Wide.{Wide}
-use Rattle.wide.specs.declared.Signed.{Signed}
-use Rattle.wide.specs.declared.Signed.TheVariants as signed
 use Rattle.lexer.specs.declared.Token.{Token as CodeToken}
 use Rattle.lexer.specs.declared.Token.TheVariants as code
 use Rattle.lexer.specs.declared.Lexed.{Lexed}
@@ -14,6 +13,7 @@ use Rattle.feeder.specs.declared.Answer.TheVariants as answer
 use Rattle.feeder.specs.declared.Out.{Out}
 use Rattle.feeder.specs.declared.Fed.{Fed}
 use Rattle.demands.specs.LentPromises.{FedIn, ClosedIn}
+use Rattle.refusals.proofs.Fault.at.Reads as refusals-fault-at
 use Rattle.lists.proofs.byte_at.Reads as lists-byte-at
 use Rattle.lists.proofs.less.Reads as lists-less
 use Rattle.lists.proofs.least.Reads as lists-least
@@ -112,9 +112,9 @@ BothTwo {K} {B} {C} {A} {R} {S} P m n =
 abbrev pub WideFits : Wide → Type 0
 WideFits w = w.lo < 2 ^ 64
 
-abbrev pub SignedFits : Signed → Type 0
-SignedFits (signed.Is w) = WideFits w
-SignedFits signed.Refused = Unit {0}
+abbrev pub SignedFits : Option Wide → Type 0
+SignedFits (Some w) = WideFits w
+SignedFits None = Unit {0}
 
 abbrev pub TokenFits : CodeToken → Type 0
 TokenFits code.LParen = Unit {0}
@@ -123,16 +123,16 @@ TokenFits code.At = Unit {0}
 TokenFits (code.Symbol n) = Unit {0}
 TokenFits (code.Int w n) = WideFits w
 
-abbrev pub LexedFits : Lexed → Type 0
-LexedFits lexed.End = Unit {0}
-LexedFits (lexed.Token t s) = TokenFits t
-LexedFits (lexed.Refused r) = Unit {0}
+abbrev pub LexedFits : Result Lexed Refusal → Type 0
+LexedFits (Ok lexed.End) = Unit {0}
+LexedFits (Ok (lexed.Token t s)) = TokenFits t
+LexedFits (Err r) = Unit {0}
 
-abbrev pub AnswerFits : Answer → Type 0
-AnswerFits answer.More = Unit {0}
-AnswerFits answer.End = Unit {0}
-AnswerFits (answer.Token t s) = TokenFits t
-AnswerFits (answer.Refused r) = Unit {0}
+abbrev pub AnswerFits : Result Answer Refusal → Type 0
+AnswerFits (Ok answer.More) = Unit {0}
+AnswerFits (Ok answer.End) = Unit {0}
+AnswerFits (Ok (answer.Token t s)) = TokenFits t
+AnswerFits (Err r) = Unit {0}
 
 abbrev pub OutFits : Out → Type 0
 OutFits o = AnswerFits o.answer
@@ -140,8 +140,9 @@ OutFits o = AnswerFits o.answer
 abbrev pub FedFits : Fed → Type 0
 FedFits f = OutFits f.out
 
--- a field a public function; refusals has none, the doors for C are in OneAnswerDoors, settings in OneAnswerSettings
+-- a field a public function that is no conversion, for those have an equation as their law; the doors for C are in OneAnswerDoors, settings in OneAnswerSettings
 pub record OneAnswer : Type 0 where
+  pub refusals_fault_at : One refusals-fault-at.Post
   pub lists_byte_at : One lists-byte-at.Post
   pub lists_less : One lists-less.Post
   pub lists_least : One lists-least.Post

@@ -10,6 +10,7 @@ use Rattle.tulbazhik_feed.proofs.tulbazhik_fresh.Reads as tulbazhik-feed-tulbazh
 use Rattle.tulbazhik_feed.proofs.tulbazhik_feed.Reads as tulbazhik-feed-tulbazhik-feed
 use Rattle.tulbazhik_feed.proofs.tulbazhik_close.Reads as tulbazhik-feed-tulbazhik-close
 use Rattle.tulbazhik_feed.proofs.states.pack.Reads as tulbazhik-feed-states-pack
+use Rattle.tulbazhik_feed.proofs.states.put.Reads as tulbazhik-feed-states-put
 use Rattle.tulbazhik_feed.proofs.states.unpack.Reads as tulbazhik-feed-states-unpack
 use Rattle.tulbazhik_trees.proofs.tulbazhik_read.Reads as tulbazhik-trees-tulbazhik-read
 use Rattle.tulbazhik_trees.proofs.tulbazhik_print.Reads as tulbazhik-trees-tulbazhik-print
@@ -29,6 +30,7 @@ pub record OneAnswerDoors : Type 0 where
   pub tulbazhik_feed_tulbazhik_feed : LeftTwo tulbazhik-feed-tulbazhik-feed.Post (λ κs s. s.0.now) (λ κs s. s.1.1.0.now)
   pub tulbazhik_feed_tulbazhik_close : LeftTwo tulbazhik-feed-tulbazhik-close.Post (λ κs s. s.0.now) (λ κs s. s.1.0.now)
   pub tulbazhik_feed_states_pack : One tulbazhik-feed-states-pack.Post
+  pub tulbazhik_feed_states_put : Left tulbazhik-feed-states-put.Post (λ κs s. s.1.0.now)
   pub tulbazhik_feed_states_unpack : One tulbazhik-feed-states-unpack.Post
   pub tulbazhik_trees_tulbazhik_read : LeftTwo tulbazhik-trees-tulbazhik-read.Post (λ κs s. s.1.1.0.now) (λ κs s. s.1.0.now)
   pub tulbazhik_trees_tulbazhik_print : LeftTwo tulbazhik-trees-tulbazhik-print.Post (λ κs s. s.1.1.1.0.now) (λ κs s. s.1.1.0.now)

@@ -4,7 +4,7 @@ use Rattle.std.specs.Prelude.{◌+◌, ◌*◌, ◌-◌, ◌≤◌, ◌≡◌, l
 use Rattle.std.specs.Int.{w64}
 use Rattle.std.proofs.Common.{of_z}
 use Rattle.std.specs.Int.Signed.{lt_z}
-use Rattle.refusals.specs.Numbers.{depth_limit}
+use Rattle.refusals.specs.Numbers.{depth_limit, fault_at}
 use Rattle.lists.specs.Over.{fitted}
 use Rattle.classes.specs.Classes.{class_of, blank, line_end, semicolon, lparen, rparen, is_at_sign, symbol_first, symbol_other, high, digit_of, literal_byte}
 use Rattle.classes.specs.Runs.{symbol_run, line_run}
@@ -34,6 +34,7 @@ use Rattle.words.specs.Words.{token_words, refused_words, done_words, text_words
 use Rattle.tulbazhik_trees.specs.Texts.{print_words}
 use Rattle.tulbazhik_feed.specs.States.{pack_of, unpack_of, state_words}
 use Rattle.tulbazhik_windows.specs.States.{unpack_of as unpack_window, call_words, state_words as window_words}
+use Rattle.refusals.proofs.Fault.at.Reads as refusals-fault-at
 use Rattle.lists.proofs.byte_at.Reads as lists-byte-at
 use Rattle.lists.proofs.less.Reads as lists-less
 use Rattle.lists.proofs.least.Reads as lists-least
@@ -110,12 +111,14 @@ use Rattle.tulbazhik_feed.proofs.tulbazhik_fresh.Reads as tulbazhik-feed-tulbazh
 use Rattle.tulbazhik_feed.proofs.tulbazhik_feed.Reads as tulbazhik-feed-tulbazhik-feed
 use Rattle.tulbazhik_feed.proofs.tulbazhik_close.Reads as tulbazhik-feed-tulbazhik-close
 use Rattle.tulbazhik_feed.proofs.states.pack.Reads as tulbazhik-feed-states-pack
+use Rattle.tulbazhik_feed.proofs.states.put.Reads as tulbazhik-feed-states-put
 use Rattle.tulbazhik_feed.proofs.states.unpack.Reads as tulbazhik-feed-states-unpack
 use Rattle.tulbazhik_trees.proofs.tulbazhik_read.Reads as tulbazhik-trees-tulbazhik-read
 use Rattle.tulbazhik_trees.proofs.tulbazhik_print.Reads as tulbazhik-trees-tulbazhik-print
 use Rattle.tulbazhik_windows.proofs.tulbazhik_fill.Reads as tulbazhik-windows-tulbazhik-fill
 
 pub record Promises : Type 1 where
+  pub refusals_fault_at : (κs : _) (a : _) (x : _) (s : _) → refusals-fault-at.Post κs a x s ≡ (x ≡ fault_at a.0 a.1.0)
   pub lists_byte_at : (κs : _) (a : _) (x : _) (s : _) → lists-byte-at.Post κs a x s ≡ (x ≡ get_or a.0.now a.1.0 0)
   pub lists_less : (κs : _) (a : _) (x : _) (s : _) → lists-less.Post κs a x s ≡ (x ≡ a.0 - a.1.0)
   pub lists_least : (κs : _) (a : _) (x : _) (s : _) → lists-least.Post κs a x s ≡ ((x ≤ a.1.0) × (a.0 ≤ a.1.0 → x ≡ a.0) × (a.1.0 ≤ a.0 → x ≡ a.1.0))
@@ -168,7 +171,7 @@ pub record Promises : Type 1 where
   pub table_step_at : (κs : _) (a : _) (x : _) (s : _) → table-step-at.Post κs a x s ≡ (x ≡ step_at a.0.now a.1.0 a.1.1.0)
   pub table_past_symbol : (κs : _) (a : _) (x : _) (s : _) → table-past-symbol.Post κs a x s ≡ (x ≡ past_symbol a.0.now a.1.0)
   pub table_stored_cost : (κs : _) (a : _) (x : _) (s : _) → table-stored-cost.Post κs a x s ≡ (x ≡ stored_cost a.0.now a.1.0)
-  pub table_walk_earlier : (κs : _) (a : _) (x : _) (s : _) → table-walk-earlier.Post κs a x s ≡ (x ≡ first_of a.1.1.0 a.0 a.1.0)
+  pub table_walk_earlier : (κs : _) (a : _) (x : _) (s : _) → table-walk-earlier.Post κs a x s ≡ (x ≡ first_of a.0 a.1.0)
   pub table_walk_own_wrong : (κs : _) (a : _) (x : _) (s : _) → table-walk-own-wrong.Post κs a x s ≡ (x ≡ own_wrong a.0.now a.1.0 a.1.1.0)
   pub table_walk_walk_tree : (κs : _) (a : _) (x : _) (s : _) → table-walk-walk-tree.Post κs a x s ≡ Walks a.0.now a.1.0 (tree_at a.0.now a.1.1.0 a.1.0) x
   pub table_past : (κs : _) (a : _) (x : _) (s : _) → table-past.Post κs a x s ≡ (x ≡ past_of a.1.0 (tree_at a.0.now depth_limit a.1.0))
@@ -192,6 +195,7 @@ pub record Promises : Type 1 where
   pub tulbazhik_feed_tulbazhik_feed : (κs : _) (a : _) (x : _) (s : _) → tulbazhik-feed-tulbazhik-feed.Post κs a x s ≡ ((s.0.now ≡ state_words (feed_of (unpack_of a.0.now) a.1.0.now)) × (s.1.1.0.now ≡ fed_words (feed_of (unpack_of a.0.now) a.1.0.now)))
   pub tulbazhik_feed_tulbazhik_close : (κs : _) (a : _) (x : _) (s : _) → tulbazhik-feed-tulbazhik-close.Post κs a x s ≡ ((s.0.now ≡ state_words (close_of (unpack_of a.0.now))) × (s.1.0.now ≡ fed_words (close_of (unpack_of a.0.now))))
   pub tulbazhik_feed_states_pack : (κs : _) (a : _) (x : _) (s : _) → tulbazhik-feed-states-pack.Post κs a x s ≡ (x ≡ pack_of a.0)
+  pub tulbazhik_feed_states_put : (κs : _) (a : _) (x : _) (s : _) → tulbazhik-feed-states-put.Post κs a x s ≡ (s.1.0.now ≡ pack_of a.0)
   pub tulbazhik_feed_states_unpack : (κs : _) (a : _) (x : _) (s : _) → tulbazhik-feed-states-unpack.Post κs a x s ≡ (x ≡ unpack_of a.0)
   pub tulbazhik_trees_tulbazhik_read : (κs : _) (a : _) (x : _) (s : _) → tulbazhik-trees-tulbazhik-read.Post κs a x s ≡ ((s.1.1.0.now ≡ length_words (reading_of a.0.now (length a.1.0.now))) × (s.1.0.now ≡ read_into a.0.now a.1.0.now))
   pub tulbazhik_trees_tulbazhik_print : (κs : _) (a : _) (x : _) (s : _) → tulbazhik-trees-tulbazhik-print.Post κs a x s ≡ ((s.1.1.1.0.now ≡ print_words (printing_of a.0.now a.1.0 (length a.1.1.0.now))) × (s.1.1.0.now ≡ printed_into a.0.now a.1.0 a.1.1.0.now))

@@ -1,9 +1,7 @@
 // The program of document 01: reads rules from standard input and writes them laid out at width 100, or the refusal.
 #![tactic(auto)]
 
-use printer::Printed;
-use reader::Readout;
-use refusals::Refusal;
+use refusals::{Fault, Refusal};
 use std::io;
 use std::io::{Read, Write};
 
@@ -12,57 +10,26 @@ const ROOM: usize = 65536;
 
 const WIDTH: u32 = 100;
 
-fn show_refusal(to: &mut impl Write, r: Refusal) -> io::Result<()> {
-    writeln!(to, "refusal {} at {}", r.number, r.place)
-}
-
-fn print(to: &mut impl Write, table: &[u8], out: &mut [u8]) -> io::Result<()> {
-    match printer::print(table, WIDTH, out) {
-        Printed::Text(n, _) => {
-            if n <= out.len() {
-                to.write_all(&out[..n])?;
-            }
-            Ok(())
-        }
-        Printed::Refused(r) => show_refusal(to, r),
+// The rules laid out in the front of `out`; their table is made in the other room.
+fn laid_out<'a>(src: &[u8], table: &mut [u8], out: &'a mut [u8]) -> Result<&'a [u8], Refusal> {
+    if ROOM < src.len() {
+        return Err(Fault::TooLong.at(ROOM));
     }
-}
-
-fn rewrite(to: &mut impl Write, src: &[u8], table: &mut [u8], out: &mut [u8]) -> io::Result<()> {
-    match reader::read(src, table) {
-        Readout::Table(n) => {
-            if n <= table.len() {
-                print(to, &table[..n], out)?;
-            }
-            Ok(())
-        }
-        Readout::Refused(r) => show_refusal(to, r),
-    }
-}
-
-// Whether the input goes on past a full room.
-fn goes_on(from: &mut impl Read) -> io::Result<bool> {
-    let mut next = [0u8; 1];
-    Ok(0 < from.read(&mut next)?)
+    let len = reader::read(src, table)?;
+    let text = printer::print(&table[..len], WIDTH, out)?;
+    Ok(&out[..text.len])
 }
 
 fn main(rt: HostRuntime) -> io::Result<()> {
-    let mut from = rt.stdin();
     let mut to = rt.stdout();
     let mut src = Vec::new(rt.alloc());
-    from.by_ref().take(ROOM as u64).read_to_end(&mut src)?;
-    if ROOM <= src.len() {
-        if goes_on(&mut from)? {
-            return show_refusal(
-                &mut to,
-                Refusal {
-                    number: refusals::TOO_LONG,
-                    place: ROOM,
-                },
-            );
-        }
-    }
+    // A byte past the room tells an input that is too long.
+    rt.stdin().take(ROOM as u64 + 1).read_to_end(&mut src)?;
+    // Rooms of a fixed size, to be lent; only the input is on the heap.
     let mut table = [0u8; ROOM];
     let mut out = [0u8; ROOM];
-    rewrite(&mut to, &src, &mut table, &mut out)
+    match laid_out(&src, &mut table, &mut out) {
+        Ok(text) => to.write_all(text),
+        Err(r) => writeln!(to, "{r}"),
+    }
 }

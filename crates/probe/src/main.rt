@@ -4,180 +4,130 @@
 // The files stdin and stdout beside src/ are `oracle sample --cases 400 stdin stdout`: fixed cases with the Rust's and the documents' answers.
 #![tactic(auto)]
 
-mod entrances;
 mod feeding;
 mod lexing;
 mod lines;
+mod ops;
 mod rooms;
 mod settled;
 mod tables;
 mod windowed;
 
-use feeding::Style;
-use lines::Page;
+use feeding::Host;
+use ops::Op;
 use std::io;
-use std::io::{ErrorKind, Read, Stdout};
-use windowed::Job;
+use std::io::{BufWriter, ErrorKind, Read, Write};
 
-// More frames than any input has.
-const FRAMES: u64 = 0x7fff_ffff_ffff_ffff;
+// The bytes that are gathered before they go to standard output.
+const PAGE: usize = 65536;
 
-#[derive(Clone, Copy)]
-struct Frame {
-    op: u8,
+// The rooms that cases are run in, on the heap: a source somewhat above the limit, or a table to print; the table of any source that the tests send, or the
+// room of a window; what is printed.
+const SOURCE: usize = 1114112;
+
+const TABLE: usize = 3145728;
+
+const TEXT: usize = 2097152;
+
+// The numbers and the bytes of a frame.
+#[derive(Clone, Copy, Debug, PartialEq, Eq)]
+struct Case<'a> {
     a: usize,
     b: usize,
-    len: usize,
+    src: &'a [u8],
 }
 
-#[derive(Clone, Copy)]
-enum Next {
-    Is(Frame),
-    Nothing,
-}
-
-// After a frame: the bytes on the page, and whether there may be more frames.
-#[derive(Clone, Copy)]
-struct After {
-    n: usize,
-    more: bool,
-}
-
-// Reads a frame's bytes to the front of the source's room; false if they do not fit or the input ends.
-fn filled(from: &mut impl Read, room: &mut [u8], len: usize) -> io::Result<bool> {
-    let k = lines::within(len, room);
-    if k < len {
-        return Ok(false);
+impl Case<'_> {
+    // The first number as a width.
+    fn width(self) -> u32 {
+        width_of(self.a)
     }
-    read_full(from, &mut room[..k])
+}
+
+fn width_of(n: usize) -> u32 {
+    u32::try_from(n).unwrap_or(u32::MAX)
 }
 
 // Fills the buffer; false if the input ends before.
-fn read_full(from: &mut impl Read, buf: &mut [u8]) -> io::Result<bool> {
+fn filled(from: &mut impl Read, buf: &mut [u8]) -> io::Result<bool> {
     match from.read_exact(buf) {
         Ok(()) => Ok(true),
-        Err(e) => {
-            if e.kind() == ErrorKind::UnexpectedEof {
-                return Ok(false);
-            }
-            Err(e)
-        }
+        Err(e) if e.kind() == ErrorKind::UnexpectedEof => Ok(false),
+        Err(e) => Err(e),
     }
 }
 
-fn next_frame(from: &mut impl Read, room: &mut [u8]) -> io::Result<Next> {
+// Reads a frame, its bytes to the front of the room, and gives its op's letter and the rest; none if the input ends or the bytes do not fit.
+fn next_case<'a>(from: &mut impl Read, room: &'a mut [u8]) -> io::Result<Option<(u8, Case<'a>)>> {
     let mut head = [0u8; 13];
-    if !read_full(from, &mut head)? {
-        return Ok(Next::Nothing);
+    if !filled(from, &mut head)? {
+        return Ok(None);
     }
     let len = wide::u32_at(&head, 9);
-    if filled(from, room, len)? {
-        return Ok(Next::Is(Frame {
-            op: head[0],
-            a: wide::u32_at(&head, 1),
-            b: wide::u32_at(&head, 5),
-            len,
-        }));
+    if room.len() < len || !filled(from, &mut room[..len])? {
+        return Ok(None);
     }
-    Ok(Next::Nothing)
+    let case = Case {
+        a: wide::u32_at(&head, 1),
+        b: wide::u32_at(&head, 5),
+        src: &room[..len],
+    };
+    Ok(Some((head[0], case)))
 }
 
-fn style(op: u8) -> Style {
-    Style {
-        lent: (op == b'f') | (op == b'c'),
-        calls: (op == b'C') | (op == b'c'),
-    }
-}
-
-// Of V the second number is the layout, and there is one.
-fn job(f: Frame) -> Job {
-    let shown = f.op == b'V';
-    Job {
-        shown,
-        first_width: f.a,
-        later_width: if shown { f.a } else { f.b },
-    }
-}
-
+// The writer and the rooms are parameters of each op: a struct of them would be taken apart again at each call that lends a room.
 fn answer(
-    page: &mut Page,
-    n: usize,
-    f: Frame,
-    src: &[u8],
+    to: &mut impl Write,
+    op: Op,
+    case: Case<'_>,
     table: &mut [u8],
     text: &mut [u8],
-) -> usize {
-    let op = f.op;
+) -> io::Result<()> {
     match op {
-        b'L' => lexing::tokens(page, n, src, f.a),
-        b'F' | b'f' | b'C' | b'c' => feeding::pieces(page, n, style(op), src, f.a, f.b),
-        b'R' => tables::read(page, n, src, table, f.a),
-        b'P' => tables::print(page, n, src, f.a, text, f.b),
-        b'Q' => tables::print_counted(page, n, src, f.a, text, f.b),
-        b'W' => tables::rewrite(page, n, src, f.a, table, text),
-        b'K' => tables::check(page, n, src),
-        b'V' | b'v' => windowed::print(page, n, job(f), src, table),
-        b'S' => settled::look_up(page, n, f.a, src, f.b),
-        b'T' => settled::write_width(page, n, src, f.a, text, f.b),
-        b't' => settled::write_style(page, n, src, f.a, text, f.b),
-        _ => lines::bytes(page, n, b"no such op\n"),
+        Op::Tokens => lexing::tokens(to, case),
+        Op::Pieces(entrance, shown) => feeding::pieces(to, case, Host::new(entrance, shown)),
+        Op::Read => tables::read(to, case, table),
+        Op::Print => tables::print(to, case, text),
+        Op::PrintCounted => tables::print_counted(to, case, text),
+        Op::Rewrite => tables::rewrite(to, case, table, text),
+        Op::Check => tables::check(to, case),
+        Op::Windows(shown) => windowed::print(to, case, shown, table),
+        Op::LookUp => settled::look_up(to, case),
+        Op::WriteWidth => settled::write_width(to, case, text),
+        Op::WriteStyle => settled::write_style(to, case, text),
     }
 }
 
-// One frame and its answer.
-fn turn(
-    from: &mut impl Read,
-    page: &mut Page,
-    n: usize,
-    room: &mut [u8],
-    table: &mut [u8],
-    text: &mut [u8],
-) -> io::Result<After> {
-    match next_frame(from, room) {
-        Ok(Next::Is(f)) => {
-            let len = lines::within(f.len, room);
-            let m = answer(page, n, f, &room[..len], table, text);
-            let n = lines::bytes(page, m, b".\n");
-            lines::outcome(page)?;
-            Ok(After { n, more: true })
-        }
-        Ok(Next::Nothing) => Ok(After { n, more: false }),
-        Err(e) => {
-            // The answers before it are written.
-            lines::flush(page, n)?;
-            Err(e)
-        }
-    }
-}
-
+// Answers each frame, with a line that has a dot behind it.
 fn serve(
     from: &mut impl Read,
-    to: Stdout,
+    to: &mut impl Write,
     src: &mut [u8],
     table: &mut [u8],
     text: &mut [u8],
 ) -> io::Result<()> {
-    let mut page = lines::blank(to);
-    let mut n = 0;
-    for _ in 0..FRAMES {
-        let t = turn(from, &mut page, n, src, table, text)?;
-        n = t.n;
-        if !t.more {
-            break;
+    for _ in 0..u64::MAX {
+        let next = next_case(from, src);
+        if next.is_err() {
+            // The answers before it are written.
+            to.flush()?;
         }
+        let Some((letter, case)) = next? else {
+            break;
+        };
+        match Op::try_from(letter) {
+            Ok(op) => answer(to, op, case, table, text)?,
+            Err(unknown) => writeln!(to, "{unknown}")?,
+        }
+        writeln!(to, ".")?;
     }
-    lines::flush(&mut page, n)
+    to.flush()
 }
 
 fn main(rt: HostRuntime) -> io::Result<()> {
-    let mut src = rooms::source(rt.alloc())?;
-    let mut table = rooms::table(rt.alloc())?;
-    let mut text = rooms::text(rt.alloc())?;
-    serve(
-        &mut rt.stdin(),
-        rt.stdout(),
-        &mut src,
-        &mut table,
-        &mut text,
-    )
+    let mut src = vec![in rt.alloc(); 0u8; SOURCE]?;
+    let mut table = vec![in rt.alloc(); 0u8; TABLE]?;
+    let mut text = vec![in rt.alloc(); 0u8; TEXT]?;
+    let mut to = BufWriter::with_capacity(rt.alloc(), PAGE, rt.stdout())?;
+    serve(&mut rt.stdin(), &mut to, &mut src, &mut table, &mut text)
 }
