@@ -8,7 +8,7 @@ use crate::rest::Rest;
 use crate::runs::Moved;
 use crate::{Half, Mode};
 
-// Half of `(;` or `;)`, by the byte that was just consumed.
+// Half of `(;` or `;)`, by the byte that was just consumed. No From: it tests a byte, and most are no half.
 fn half_of(b: u8) -> Half
     ensures { result ≡ half (class_of b) }
 {

@@ -25,7 +25,7 @@ pub enum Half {
     Paren,
 }
 
-// What is held, from its start on.
+// What is held, from its start on. The fields of each case are words of a host (theorem packed_states), so `start` and `minus` are no struct.
 #[derive(Clone, Copy, Debug, PartialEq, Eq)]
 pub enum Mode {
     Blank,
@@ -93,6 +93,7 @@ impl State {
     }
 }
 
+// What a call answers that refuses nothing: the end is an answer like the others, and no None.
 #[derive(Clone, Copy, Debug, PartialEq, Eq)]
 pub enum Answer {
     More,

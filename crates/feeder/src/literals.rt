@@ -38,7 +38,8 @@ impl Rest<'_> {
         self.in_digits(start, true, 10, Reading::Empty)
     }
 
-    // A literal ends as the source's end would end it, which no literal is.
+    // A literal ends as at the source's end; the answer is a token or a refusal, and never the end. Beside `lexer::literal::digits_from`, which begins at no digit and
+    // tells no mode: this one goes on from what was read of the pieces before.
     pub fn in_digits(self, start: usize, minus: bool, radix: u8, reading: Reading) -> Moved
         ensures { Runs self.entry (Digits start minus radix reading) result }
     {

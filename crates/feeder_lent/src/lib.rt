@@ -1,4 +1,5 @@
-// The second entrance: the state is lent and changed in place, for a host's editor loop; thin, over the by-value forms.
+// The second entrance: the state is lent and changed in place, for a host's editor loop; thin, over the by-value forms. Document 01 asks for one thin feed and one
+// thin close, so `feed_in` and `close_in` stay two.
 #![tactic(auto)]
 
 ghost use Rattle.std.specs.Prelude.{◌≡◌};

@@ -4,7 +4,7 @@
 ghost use Rattle.std.specs.Prelude.{◌≡◌, ◌+◌, ◌-◌, ◌≤◌, length, take, get_or};
 ghost use Rattle.lists.specs.Over.{over, fitted};
 
-// The byte at i, or 0 past the end.
+// The byte at i, or 0 past the end: no Option, for that is the public promise.
 pub fn byte_at(s: &[u8], i: usize) -> u8
     ensures { result ≡ get_or s.now i 0 }
 {

@@ -39,6 +39,7 @@ fn atom(place: usize, n: usize) -> Size
     }
 }
 
+// `at` is no field of the page: it is another at each call.
 impl Page<'_> {
     // The tree at `at`, with `depth` lists and bindings still to be opened. Its place and its layout stay apart as in `print_wrapped`.
     #[cycle(measure_list_measure_tree)]

@@ -106,6 +106,7 @@ fn serve(
     table: &mut [u8],
     text: &mut [u8],
 ) -> io::Result<()> {
+    // A bound that is never met: each loop has to end.
     for _ in 0..u64::MAX {
         let next = next_case(from, src);
         if next.is_err() {

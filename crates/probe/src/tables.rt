@@ -19,7 +19,7 @@ pub fn print(to: &mut impl Write, case: Case<'_>, text: &mut [u8]) -> io::Result
     })
 }
 
-// The same, with the records that the fits test looked at. The first byte is the layout, and there is one; of no bytes the table is empty.
+// The same, with the records that the fits test looked at; not by `lend`, for the number stands between what was written and what was kept. The first byte is the layout, and there is one; of no bytes the table is empty.
 pub fn print_counted(to: &mut impl Write, case: Case<'_>, text: &mut [u8]) -> io::Result<()> {
     let table = rooms::parted(case.src, 1).1;
     let room = rooms::front(text, case.b);

@@ -79,6 +79,7 @@ fn read_items(src: &[u8], mut at: usize, depth: usize, room: &mut [u8]) -> Resul
     let mut size = 0;
     // As far as the records are put, for it is only wanted where they all are.
     let mut cost = 0;
+    // No `for`: the next token begins where a tree ends.
     let stop = loop {
         let one = match lexer::next_token(src, at)? {
             Lexed::End if 0 < due => return Err(Fault::NoTree.at(src.len())),

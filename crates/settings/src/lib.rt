@@ -109,7 +109,7 @@ fn number_in(kind: Kind, project: &[u8], house: &[u8]) -> Result<Sided<usize>, S
     })
 }
 
-// The edition of the project's file, which is never absent.
+// The edition of the project's file, which is never absent. Beside `width`: two public promises, of one call each.
 pub fn edition(project: &[u8], house: &[u8]) -> Result<Sided<usize>, Sided<Refusal>>
     ensures { number_of result ≡ edition_in project.now house.now }
 {
@@ -129,7 +129,7 @@ pub fn style(project: &[u8], house: &[u8]) -> Result<Sided<Span>, Sided<Refusal>
     setting(Kind::Style, project, house)
 }
 
-// The style name itself, as a part of one of the two files; no bytes where `style` refuses.
+// The style name itself, as a part of one of the two files; no bytes and no Option where `style` refuses: `style_name_in` is the public promise.
 pub fn style_name<'a>(project: &'a [u8], house: &'a [u8]) -> &'a [u8]
     ensures { (result.now ≡ style_name_in project.now house.now)
         × (result.ref_ptr ≡ part_at project.entry.ref_ptr house.entry.ref_ptr (style_in project.now house.now)) }
@@ -158,7 +158,7 @@ fn write(f: &[u8], kind: Kind, value: &[u8], out: &mut [u8]) -> Result<usize, Re
     splicing::splice(f, old, kind, value, out)
 }
 
-// Writes a width.
+// Writes a width. Beside `write_style`: two public promises, of one call each.
 #[tactic(auto, using(crate::proofs::Joining::width_value))]
 pub fn write_width(f: &[u8], width: u32, out: &mut [u8]) -> Result<usize, Refusal>
     ensures { CopiedInto (copy_of f.now (width_setting width) (length out.old)) result out.old out.new }

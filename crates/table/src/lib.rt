@@ -85,7 +85,7 @@ fn runs_on_over(b: u8) -> bool
     classes::is_high(b) || classes::is_sym_other_char(b)
 }
 
-// The bytes are what the lexer reads as one symbol.
+// The bytes are what the lexer reads as one symbol. Byte by byte and not by `symbol_end`: names are short, and with it a check took 6 % more instructions.
 #[tactic(auto, using(crate::proofs::Names::empty, crate::proofs::Names::not_first))]
 pub fn is_symbol(s: &[u8]) -> bool
     ensures { result ≡ is_symbol s.now }
@@ -98,7 +98,7 @@ pub fn is_symbol(s: &[u8]) -> bool
     }
 }
 
-// The payload of the record of `len` bytes at `at` is a symbol.
+// The payload of the record of `len` bytes at `at` is a symbol. Table, place and length stay three: who has a record has these.
 #[tactic(auto, using(crate::proofs::Names::part))]
 fn is_name(t: &[u8], at: usize, len: usize) -> bool
     requires { (head_len ≤ len) × (at + len ≤ length t.now) }

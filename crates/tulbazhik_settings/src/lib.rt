@@ -71,6 +71,7 @@ fn put_style(x: Result<Sided<Span>, Sided<Refusal>>, answer: &mut [u64; 8])
     }
 }
 
+// The same match as in `tulbazhik_read`: two doors, of which neither stands on the other.
 #[tactic(auto, unfolding(words::specs::Words::length_words))]
 fn put_written(x: Result<usize, Refusal>, answer: &mut [u64; 8])
     ensures { answer.new ≡ length_words (written_of x) }

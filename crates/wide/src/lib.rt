@@ -222,7 +222,7 @@ pub fn u16_at(t: &[u8], at: usize) -> usize
     }
 }
 
-// The number in the four bytes from `at` on, or 0 where fewer are left.
+// The number in the four bytes from `at` on, or 0 where fewer are left, as in `u16_at`.
 pub fn u32_at(t: &[u8], at: usize) -> usize
     ensures { result ≡ number_in 4 t.now at }
 {
@@ -232,7 +232,7 @@ pub fn u32_at(t: &[u8], at: usize) -> usize
     }
 }
 
-// The integer in the sixteen bytes from `at` on, or 0 where fewer are left.
+// The integer in the sixteen bytes from `at` on, or 0 where fewer are left: `wide_in` is the public promise.
 pub fn wide_at(t: &[u8], at: usize) -> Wide
     ensures { value result ≡ wide_in t.now at }
 {

@@ -69,12 +69,13 @@ fn give_integer(t: &[u8], at: usize, from: usize, out: &mut [u8]) -> Gave
     requires { at + integer_len ≤ length t.now }
     ensures { Given (integer_text (integer_at t.now (at + head_len))) from out.old out.new result }
 {
+    // The longest text of an integer has 40 bytes.
     let mut text = [0; 40];
     let n = wide::put_text(wide::wide_at(t, at + records::HEAD), &mut text);
     give(&text[..n], from, out)
 }
 
-// The payload of the record of `len` bytes at `at`.
+// The payload of the record of `len` bytes at `at`: three, as in the printer's `atoms`.
 fn give_name(t: &[u8], at: usize, len: usize, from: usize, out: &mut [u8]) -> Gave
     requires { (head_len ≤ len) × (at + len ≤ length t.now) }
     ensures { Given (payload t.now at len) from out.old out.new result }

@@ -93,6 +93,7 @@ pub struct State {
     pub stack: [u64; 64],
 }
 
+// What a call answers that refuses nothing: the end has a number of its own, and is no None.
 #[derive(Clone, Copy, Debug, PartialEq, Eq)]
 pub enum Answer {
     // Bytes given: the front of the window.
@@ -196,7 +197,7 @@ fn begun(page: Page, c: Cursor) -> Result<Cursor, Refusal>
     }
 }
 
-// The same as `fill`, with the stack lent: 64 words of it are enough, and what a shorter one cannot hold is lost.
+// The same as `fill`, with the stack lent, as the door for C lends a host's words: 64 words of it are enough, and what a shorter one cannot hold is lost.
 pub fn fill_in(
     table: &[u8],
     width: u32,

@@ -96,7 +96,7 @@ pub fn put_length(n: usize, answer: &mut [u64; 8])
     *answer = [DONE, 0, n as u64, 0, 0, 0, 0, 0];
 }
 
-// The same of a text, with the records that the fits test looked at.
+// The same of a text, with the records that the fits test looked at: a word of its own in the header for C.
 pub fn put_text(n: usize, looked: usize, answer: &mut [u64; 8])
     ensures { answer.new ≡ text_words n looked }
 {
