@@ -44,6 +44,8 @@ impl From<u8> for Class {
     }
 }
 
+// Unfolded so that a branch on a byte is proved too, such as the edit form_feed_blank and its twin have.
+#[tactic(auto, unfolding(crate::specs::Classes::class_of))]
 pub fn class_of(b: u8) -> Class
     ensures { result ≡ class_of b }
 {

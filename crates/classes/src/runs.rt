@@ -11,6 +11,9 @@ trait Run {
     fn goes_on(b: u8) -> bool
         ensures { result ≡ goes_on b };
 
+    // Whether b is marked in any word and such bytes stand together, so that it is faster to ask the next byte alone. Any answer is right.
+    fn is_marked(b: u8) -> bool;
+
     // Marks by their highest bits the bytes of a word that may end the run. The first mark is right; those behind it may not be.
     fn marks(w: u64) -> u64
         ensures { Marks (run_end goes_on) w result };
@@ -24,6 +27,11 @@ impl Run for Symbol {
 
     fn goes_on(b: u8) -> bool {
         crate::is_sym_other_char(b)
+    }
+
+    // Digits, dashes, dots, and letters beyond ASCII.
+    fn is_marked(b: u8) -> bool {
+        b < 65 || 127 < b
     }
 
     // Those below 65 or above 127.
@@ -40,6 +48,11 @@ impl Run for Line {
 
     fn goes_on(b: u8) -> bool {
         !crate::is_line_end(b)
+    }
+
+    // Those that are marked and end no line are rare.
+    fn is_marked(_b: u8) -> bool {
+        false
     }
 
     // Those below 14.
@@ -83,6 +96,13 @@ fn end<R: Run>(s: &[u8], at: usize) -> usize
                 return i;
             }
             i += 1;
+            // With a word begun anew behind each marked byte, feeding a symbol of such bytes took two to six times as long.
+            while i < s.len() && R::is_marked(s[i]) {
+                if !R::goes_on(s[i]) {
+                    return i;
+                }
+                i += 1;
+            }
         }
     }
     for j in i..s.len() {

@@ -124,11 +124,14 @@ one_walk t p (refused n a) (Err m) (Err r) s u = ap Err (told_refusal m _ _ s.0 
 one_walk t p (refused n a) (Err m) (Ok r) s u = absurd u
 one_walk t p (refused n a) (Ok m) r s u = absurd s
 
--- ---- a record x that was read and is good
+-- ---- a record x that was read, judged
 
 module _ (t : List ℕ) (d at : ℕ) (x : Record) (e : Ok x ≡ record_at t at) where
   pub symbol_good : (len : ℕ) (b : Bool) → x ≡ Symbol len → b ≡ is_symbol (payload t at len) → b ≡ true → Ok (Symbol len) ≡ step_at t at (ltb 0 d)
   symbol_good len b e' f g = judged_is t at (ltb 0 d) x (Symbol len) (Ok (Symbol len)) e e' (then_is b _ _ _ f g)
+
+  pub symbol_bad : (len : ℕ) (b : Bool) → x ≡ Symbol len → b ≡ is_symbol (payload t at len) → b ≡ false → Err fault.BadSymbol ≡ step_at t at (ltb 0 d)
+  symbol_bad len b e' f g = judged_is t at (ltb 0 d) x (Symbol len) (Err fault.BadSymbol) e e' (rw (← f, g) refl)
 
   -- where more may be open
   pub list_good : (n : ℕ) → x ≡ ListOf n → 0 < d → Ok (ListOf n) ≡ step_at t at (ltb 0 d)

@@ -8,7 +8,7 @@ ghost use Rattle.table.specs.Walking.{first_of, own_wrong, Walks};
 
 use crate::Record;
 use records::HEAD;
-use refusals::Refusal;
+use refusals::{Fault, Refusal};
 
 #[derive(Clone, Copy, Debug, PartialEq, Eq)]
 pub struct Walked {
@@ -87,6 +87,8 @@ fn walk_list(t: &[u8], at: usize, n: usize, depth: usize) -> Result<Walked, Refu
                 p += len;
                 continue;
             }
+            // Told here, for `walk_tree` would look at its bytes once more.
+            Ok(Record::Symbol(_)) => return Err(Fault::BadSymbol.at(p)),
             Ok(Record::List(m)) if 0 < depth => walk_list(t, p, m, depth - 1)?,
             _ => walk_tree(t, p, depth)?,
         };

@@ -23,20 +23,35 @@ returns-then-not-goes_on g c =
     run_stop g.R.Run.goes_on _ _ (omega (arith, c.before_mark-i.ensures.0)) (sym c.goes_on.ensures ∙ c.if-not-goes_on.true)
     ∙ passed g (goal.at.returns-then-not-goes_on g c).After-marks-m c.before_mark-i.result (omega (arith, c.before_mark-i.ensures.0)) c.before_mark-i.ensures.1
 
-pub loop-i-preserved : goal.loop-i-preserved
-loop-i-preserved g c = (
+pub loop-i-else-m-eq0-init : goal.loop-i-else-m-eq0-init
+loop-i-else-m-eq0-init g c = (
+  omega arith,
   omega (arith, c.before_mark-i.ensures.0),
   sym (run_go g.R.Run.goes_on _ _ (omega (arith, c.before_mark-i.ensures.0)) (sym c.goes_on.ensures ∙ c.if-not-goes_on.false))
-      ∙ passed g (goal.at.loop-i-preserved g c).After-marks-m c.before_mark-i.result (omega (arith, c.before_mark-i.ensures.0)) c.before_mark-i.ensures.1,
+      ∙ passed g (goal.at.loop-i-else-m-eq0-init g c).After-marks-m c.before_mark-i.result (omega (arith, c.before_mark-i.ensures.0)) c.before_mark-i.ensures.1,
 )
 
 pub returns-then-not-goes_on-2 : goal.returns-then-not-goes_on-2
 returns-then-not-goes_on-2 g c =
-    run_stop g.R.Run.goes_on _ _ c.loop-j-test.true (sym c.goes_on-in-loop-j.ensures ∙ c.if-not-goes_on-2.true) ∙ c.loop-j.invariant
+    run_stop g.R.Run.goes_on _ _ c.loop-i-else-m-eq0-test.true (sym c.goes_on-in-loop-i-else-m-eq0.ensures ∙ c.if-not-goes_on-2.true) ∙ c.loop-i-else-m-eq0.invariant.2
+
+pub loop-i-else-m-eq0-preserved : goal.loop-i-else-m-eq0-preserved
+loop-i-else-m-eq0-preserved g c = (
+  omega (arith, c.loop-i-else-m-eq0.invariant.0),
+  omega (arith, c.loop-i-else-m-eq0-test.true),
+  sym (run_go g.R.Run.goes_on _ _ c.loop-i-else-m-eq0-test.true (sym c.goes_on-in-loop-i-else-m-eq0.ensures ∙ c.if-not-goes_on-2.false)) ∙ c.loop-i-else-m-eq0.invariant.2,
+)
+
+pub loop-i-preserved : goal.loop-i-preserved
+loop-i-preserved g c = (c.loop-i-else-m-eq0.invariant.1, c.loop-i-else-m-eq0.invariant.2)
+
+pub returns-then-not-goes_on-3 : goal.returns-then-not-goes_on-3
+returns-then-not-goes_on-3 g c =
+    run_stop g.R.Run.goes_on _ _ c.loop-j-test.true (sym c.goes_on-in-loop-j.ensures ∙ c.if-not-goes_on-3.true) ∙ c.loop-j.invariant
 
 pub loop-j-preserved : goal.loop-j-preserved
 loop-j-preserved g c =
-    sym (run_go g.R.Run.goes_on _ _ c.loop-j-test.true (sym c.goes_on-in-loop-j.ensures ∙ c.if-not-goes_on-2.false)) ∙ c.loop-j.invariant
+    sym (run_go g.R.Run.goes_on _ _ c.loop-j-test.true (sym c.goes_on-in-loop-j.ensures ∙ c.if-not-goes_on-3.false)) ∙ c.loop-j.invariant
 
 pub returns : goal.returns
 returns g c =

@@ -10,7 +10,7 @@ use Rattle.table.specs.Decoding.{tree_at}
 use Rattle.table.specs.Walking.{Walks}
 use Rattle.table.proofs.Reading.{list_in}
 use Rattle.table.proofs.Steps.{step_in}
-use Rattle.table.proofs.Walks.{small, walked_tree, symbol_good, list_good, at_list, list_few}
+use Rattle.table.proofs.Walks.{small, walked_tree, symbol_good, symbol_bad, list_good, at_fault, at_list, list_few}
 use Rattle.table.proofs.Walks.{counted_name, counted_tree, counted_stop, counted_end}
 use Rattle.table.proofs.walk.+walk_list_walk_tree.Goals as goal
 use Rattle.table.proofs.walk.+walk_list_walk_tree.Goals.{walk_list-After-struct_known-1, walk_list-in-Ok-List+in_ok-x-in-Ok-List, walk_list-in_default+in_ok-x-in_default}
@@ -36,6 +36,11 @@ pub walk_list-overflow_add-cost-in-Ok-Symbol : goal.walk_list-overflow_add-cost-
 walk_list-overflow_add-cost-in-Ok-Symbol t c =
     let g = counted_name _ _ _ _ _ _ _ _ _ c.loop.invariant _ _ _ _ _ c.loop-test.true (symbol_good _ _ _ _ c.in-Ok-Symbol.ensures _ _ c.in-Ok-Symbol.field-0-is c.is_name.ensures c.if-is_name.true) refl refl refl refl in
     omega (arith, g.walk.bound, g.walk.within, c.requires.1)
+
+pub walk_list-returns-in-Ok-Symbol-2 : goal.walk_list-returns-in-Ok-Symbol-2
+walk_list-returns-in-Ok-Symbol-2 t c =
+    let e = symbol_bad c.args.t.now c.args.depth c.loop.p _ c.in-Ok-Symbol.ensures _ _ c.in-Ok-Symbol.field-0-is c.is_name.ensures c.if-is_name.false in
+    counted_stop _ _ _ _ _ _ _ _ _ c.loop.invariant _ c.loop-test.true (at_fault _ _ _ _ _ e c.at.ensures)
 
 pub walk_list-walk_list-requires : goal.walk_list-walk_list-requires
 walk_list-walk_list-requires t c =
