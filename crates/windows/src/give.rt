@@ -1,5 +1,5 @@
 // Puts into a window: from a place of the put on, as much as there is room for.
-ghost use Rattle.std.specs.Prelude.{◌≡◌, ◌+◌, ◌≤◌, ◌<◌, ◌^◌, [], ◌∷◌, length};
+ghost use Rattle.std.specs.Prelude.{◌≡◌, ◌+◌, ◌≤◌, ◌<◌, ◌^◌, [], ◌∷◌, length, take, drop, nat_eq, if◌then◌else◌};
 ghost use Rattle.wide.specs.Bytes.{integer_at};
 ghost use Rattle.wide.specs.Text.{integer_text};
 ghost use Rattle.records.specs.Records.{head_len, payload};
@@ -52,16 +52,30 @@ fn give_byte(b: u8, from: usize, out: &mut [u8]) -> Gave
     gave
 }
 
+// The byte at i of a line break: LF, then spaces.
+fn break_byte(i: usize) -> u8
+    ensures { result ≡ (if nat_eq i 0 then 10 else 32) }
+{
+    if i == 0 { b'\n' } else { b' ' }
+}
+
+// The bytes of a line break from a place on. Byte by byte and not by `fill`: that is a call of `memset`, a name that the archive for C would need from outside.
+fn break_into(indent: u8, from: usize, out: &mut [u8])
+    requires { length out.old ≤ length (drop from (bytes (nl indent))) }
+    ensures { out.new ≡ take (length out.old) (drop from (bytes (nl indent))) }
+{
+    for i in 0..out.len() {
+        out[i] = break_byte(from + i);
+    }
+}
+
 // A line break: LF and 4 spaces for each indent.
 fn give_break(indent: u8, from: usize, out: &mut [u8]) -> Gave
     ensures { Given (bytes (nl indent)) from out.old out.new result }
 {
     let rest = (4 * indent as usize + 1).saturating_sub(from);
     let given = part(rest, from, out.len());
-    out[..given.n].fill(b' ');
-    if from == 0 && 0 < given.n {
-        out[0] = b'\n';
-    }
+    break_into(indent, from, &mut out[..given.n]);
     given
 }
 
