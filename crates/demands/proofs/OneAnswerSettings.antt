@@ -45,6 +45,7 @@ written_same (Err x) (Err y) e = ap Err (refusal_same x y (cc) (cc))
 
 pub one_answer_settings : OneAnswerSettings
 one_answer_settings = record {
+  settings_kind_try_from_usize = λ κs a x y s t e f. e ∙ sym f;
   settings_edition = λ κs a x y s t e f. number_same x y (e ∙ sym f);
   settings_width = λ κs a x y s t e f. number_same x y (e ∙ sym f);
   settings_style = λ κs a x y s t e f. part_same x y (e ∙ sym f);

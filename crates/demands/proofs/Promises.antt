@@ -1,6 +1,9 @@
 -- The functions' contracts are the promises that the refutations are about. Assumes nothing.
 use mathlib.Core.Path.{refl}
-use Rattle.demands.specs.Promises.{Promises}
+use Rattle.demands.specs.Promises.{PromisesPrinted, Promises}
+
+pub promises_printed : PromisesPrinted
+promises_printed W l w d κs a x s = refl
 
 pub promises : Promises
 promises = record {
@@ -9,6 +12,7 @@ promises = record {
   lists_less = λ κs a x s. refl;
   lists_least = λ κs a x s. refl;
   lists_put = λ κs a x s. refl;
+  classes_class_from_u8 = λ κs a x s. refl;
   classes_class_of = λ κs a x s. refl;
   classes_class_in_loop = λ κs a x s. refl;
   classes_is_blank = λ κs a x s. refl;
@@ -52,6 +56,7 @@ promises = record {
   records_head_at = λ κs a x s. refl;
   records_put_head = λ κs a x s. refl;
   records_put = λ κs a x s. refl;
+  table_kind_try_from_usize = λ κs a x s. refl;
   table_record_at = λ κs a x s. refl;
   table_is_symbol = λ κs a x s. refl;
   table_step_at = λ κs a x s. refl;
@@ -67,6 +72,8 @@ promises = record {
   printer_cost_fits_in = λ κs a x s. refl;
   printer_cost_fits = λ κs a x s. refl;
   printer_print = λ κs a x s. refl;
+  windows_u64_from_phase = λ κs a x s. refl;
+  windows_phase_from_u64 = λ κs a x s. refl;
   windows_fresh = λ κs a x s. refl;
   windows_fill = λ κs a x s. refl;
   windows_fill_in = λ κs a x s. refl;

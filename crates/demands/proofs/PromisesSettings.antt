@@ -4,6 +4,7 @@ use Rattle.demands.specs.PromisesSettings.{PromisesSettings}
 
 pub promises_settings : PromisesSettings
 promises_settings = record {
+  settings_kind_try_from_usize = λ κs a x s. refl;
   settings_edition = λ κs a x s. refl;
   settings_width = λ κs a x s. refl;
   settings_style = λ κs a x s. refl;

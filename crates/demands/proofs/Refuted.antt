@@ -9,14 +9,16 @@ use lib.ListN.{length, get_or, replicate}
 use lib.Signed.{lt_z}
 use mir.Syntax.{w64}
 use mir.Val.{of_z}
-use Rattle.std.specs.Prelude.{Option, Some, None}
+use Rattle.std.specs.Prelude.{Option, Some, None, codes}
+use Rattle.std.specs.Fmt.{digits as in_decimal}
 use Rattle.lists.specs.Over.{fitted}
 use Rattle.refusals.specs.declared.Fault.TheVariants.{FormFeed}
 use Rattle.refusals.specs.declared.Refusal.{Refusal}
-use Rattle.refusals.specs.Numbers.{fault_at}
+use Rattle.refusals.specs.Numbers.{fault_at, refusal_text}
 use Rattle.refusals.specs.Result.{ok, refused}
-use Rattle.classes.specs.declared.Class.TheVariants.{Space, Other}
+use Rattle.classes.specs.declared.Class.TheVariants.{Space, Digit, Other}
 use Rattle.classes.specs.Classes.{class_of, blank, line_end, semicolon, lparen, rparen, is_at_sign, symbol_first, symbol_other, high, digit_of, literal_byte}
+use Rattle.classes.specs.Numbers.{named}
 use Rattle.classes.specs.Runs.{leading, symbol_run, line_run}
 use Rattle.wide.specs.declared.Limbs.{Limbs}
 use Rattle.wide.specs.declared.Wide.{Wide}
@@ -67,6 +69,15 @@ fault_start e = let f : ◌≡◌ {A = ℕ} 0 8 = ap (λ (r : Refusal). r.place)
 pub fault_before : Not (◌≡◌ {A = Refusal} (record { number = 2; place = 8 }) (fault_at FormFeed 8))
 fault_before e = let f : ◌≡◌ {A = ℕ} 2 3 = ap (λ (r : Refusal). r.number) e in omega arith
 
+-- Display of refusals::Refusal: the place before the number; the number alone
+told_swapped : Not (codes "refusal 8 at 3" ≡ refusal_text (record { number = 3; place = 8 }))
+unfolding in_decimal
+told_swapped e = let z : ◌≡◌ {A = ℕ} 56 51 = ap (λ (o : List ℕ). get_or o 8 0) e in omega arith
+
+told_number : Not (codes "refusal 3" ≡ refusal_text (record { number = 3; place = 8 }))
+unfolding in_decimal
+told_number e = let z : ◌≡◌ {A = ℕ} 9 14 = ap length e in omega arith
+
 -- lists::byte_at: 0 everywhere; the last byte past the end
 byte_at_zero : Not (◌≡◌ {A = ℕ} 0 (get_or (7 ∷ []) 0 0))
 byte_at_zero e = omega arith
@@ -115,6 +126,15 @@ loop_high e = let z : ◌≡◌ {A = ℕ} 0 1 = cc in omega arith
 loop_minus : Not (Other ≡ class_of 45)
 unfolding class_of
 loop_minus e = let z : ◌≡◌ {A = ℕ} 0 1 = cc in omega arith
+
+-- From<u8> for classes::Class: the minus sign's number as a digit's; a number past the last as a blank's
+named_minus : Not (Digit ≡ named 7)
+unfolding named
+named_minus e = let z : ◌≡◌ {A = ℕ} 0 1 = cc in omega arith
+
+named_past : Not (Space ≡ named 10)
+unfolding named
+named_past e = let z : ◌≡◌ {A = ℕ} 0 1 = cc in omega arith
 
 -- classes::is_blank: form feed is one; CR is none
 blank_form_feed : Not (true ≡ blank (class_of 12))

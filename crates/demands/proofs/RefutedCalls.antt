@@ -19,6 +19,8 @@ use Rattle.feeder.specs.declared.Mode.TheVariants.{Blank, Symbol as InSymbol}
 use Rattle.feeder.specs.Machine.{turn, step, closing}
 use Rattle.feeder.specs.Feeding.{more, finish, ready, Fed, fed, live, closed, dead, fresh_state, feed_from, feed_of, close_of}
 use Rattle.table.specs.declared.Record.TheVariants.{Symbol, List as ListOf}
+use Rattle.table.specs.declared.Kind.TheVariants as kind
+use Rattle.table.specs.Kinds.{kind_named}
 use Rattle.table.specs.Costs.{costed, stored_cost}
 use Rattle.table.specs.Past.{past_symbol, past_of}
 use Rattle.table.specs.Walking.{first_of, own_wrong, Walks}
@@ -104,6 +106,13 @@ put_payload e = let z : ◌≡◌ {A = ℕ} 1 7 = cc in omega arith
 put_none : Not (replicate 7 9 ≡ fitted (record_of 1 (97 ∷ [])) (replicate 7 9))
 unfolding record_of le
 put_none e = let z : ◌≡◌ {A = ℕ} 9 7 = cc in omega arith
+
+-- TryFrom<usize> for table::Kind: 4, which is retired, as a list's; an unknown one told as a bad record
+named_retired : Not (Ok kind.List ≡ kind_named 4)
+named_retired e = let z : ◌≡◌ {A = ℕ} 0 1 = cc in omega arith
+
+named_bad : Not (Err BadRecord ≡ kind_named 0)
+named_bad e = let z : ◌≡◌ {A = ℕ} 0 1 = cc in omega arith
 
 -- table::record_at: an empty symbol is bad; a length past the end is let through; 20 before 15; a missing tree as a record cut short
 record_empty : Not (Err BadRecord ≡ record_at (6 ∷ 0 ∷ 0 ∷ 0 ∷ 1 ∷ 0 ∷ []) 0)

@@ -22,7 +22,7 @@ use Rattle.feeder.specs.declared.State.{State}
 use Rattle.feeder.specs.declared.Answer.TheVariants as answer
 use Rattle.feeder.specs.declared.Out.{Out}
 use Rattle.feeder.specs.Machine.{turn, step, closing}
-use Rattle.feeder.specs.Feeding.{live, closed, fresh_state, feed_from, feed_of, close_of, reply_of}
+use Rattle.feeder.specs.Feeding.{live, closed, dead, fresh_state, feed_from, feed_of, close_of, reply_of}
 use Rattle.records.specs.Records.{record_of, head_at}
 use Rattle.table.specs.Costs.{costed, stored_cost}
 use Rattle.table.specs.Trees.{runs_on, is_symbol, records, cost}
@@ -166,6 +166,15 @@ pack_place e = let z : ◌≡◌ {A = ℕ} 0 5 = word 1 _ _ e in omega arith
 pack_minus : Not (6 ∷ 2 ∷ replicate 6 0 ≡ pack_of (live (Zero 0 true) 2))
 unfolding pack_of
 pack_minus e = let z : ◌≡◌ {A = ℕ} 0 1 = word 4 _ _ e in omega arith
+
+-- states::put: the words that a comment has no use for stay as they were; the place and the number of a refusal swapped
+put_kept : Not (1 ∷ 5 ∷ replicate 6 9 ≡ pack_of (live Line 5))
+unfolding pack_of
+put_kept e = let z : ◌≡◌ {A = ℕ} 9 0 = word 2 _ _ e in omega arith
+
+put_swapped : Not (9 ∷ 2 ∷ 6 ∷ 1 ∷ replicate 4 0 ≡ pack_of (dead 6 1 2))
+unfolding pack_of
+put_swapped e = let z : ◌≡◌ {A = ℕ} 6 1 = word 2 _ _ e in omega arith
 
 -- states::unpack: a literal's minus sign lost; a closed state live again
 unpack_minus : Not (live (Zero 0 false) 2 ≡ unpack_of (6 ∷ 2 ∷ 0 ∷ 0 ∷ 1 ∷ 0 ∷ 0 ∷ 0 ∷ []))

@@ -4,10 +4,13 @@ use mathlib.Core.List.{List, [], ◌∷◌, ◌++◌}
 use Prim.Native.Nat.{ℕ}
 use native.Mathlib.Omega.{arith}
 use lib.ListN.{length, get_or, replicate}
+use Rattle.std.specs.Prelude.{Ok}
 use Rattle.refusals.specs.Numbers.{bad_settings, bad_style_name}
 use Rattle.refusals.specs.Result.{Result, ok, refused}
 use Rattle.wide.specs.Bytes.{le, number}
 use Rattle.records.specs.Records.{record_of, head_at}
+use Rattle.settings.specs.declared.kinds.Kind.TheVariants as kind
+use Rattle.settings.specs.Kinds.{kind_of}
 use Rattle.settings.specs.Files.{file_of, among, settings_at, settings_of}
 use Rattle.settings.specs.declared.Side.{Side}
 use Rattle.settings.specs.declared.Side.TheVariants.{Project, House, Neither}
@@ -51,6 +54,13 @@ place_of (faulty s n a) = 0
 abbrev copied : Result (List ℕ) → List ℕ
 copied (ok c) = c
 copied (refused n a) = n ∷ a ∷ []
+
+-- ---- TryFrom<usize> for settings::Kind: 0 as the edition's; the style's number as the width's
+kind_zero : Not (Ok kind.Edition ≡ kind_of 0)
+kind_zero e = let z : ◌≡◌ {A = ℕ} 0 1 = cc in omega arith
+
+kind_style : Not (Ok kind.Width ≡ kind_of 3)
+kind_style e = let z : ◌≡◌ {A = ℕ} 0 1 = cc in omega arith
 
 -- ---- settings::edition: the house's; the greater of the two
 edition_house : Not (given House 2 ≡ edition_in edition1 edition2)

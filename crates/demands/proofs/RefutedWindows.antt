@@ -19,8 +19,8 @@ use Rattle.printer.specs.Layout.{break_column, fits_in}
 use Rattle.printer.specs.declared.cost.Tested.{Tested}
 use Rattle.printer.specs.Fitting.{tested, fits_at}
 use Rattle.windows.specs.declared.State.{State}
-use Rattle.windows.specs.declared.Phase.TheVariants.{Node, Done}
-use Rattle.windows.specs.Machine.{state, fresh_state, put_of, next_of}
+use Rattle.windows.specs.declared.Phase.TheVariants.{Fresh, Node, Between, Done}
+use Rattle.windows.specs.Machine.{state, fresh_state, phase_word, put_of, next_of}
 use Rattle.windows.specs.Filling.{part, end, run, fill_of}
 use Rattle.words.specs.Words.{eight, end_answer, done_answer}
 use Rattle.tulbazhik_windows.specs.States.{phase_in, cursor_in, stored, unpack_of, state_words, part_words, call_words}
@@ -73,6 +73,22 @@ fits_own e = let f : true ≡ false = ap (λ (x : Tested). x.fits) e in let z : 
 fits_cut : Not (tested false 1 ≡ fits_at (7 ∷ 0 ∷ []) 0 0 0)
 unfolding fits_at number stored_cost fits_in looks
 fits_cut e = let f : false ≡ true = ap (λ (x : Tested). x.fits) e in let z : ◌≡◌ {A = ℕ} 0 1 = cc in omega arith
+
+-- From<windows::Phase> for u64: counted from 1; the LF between two trees as the LF after a tree
+word_of_fresh : Not (1 ≡ phase_word Fresh)
+word_of_fresh e = omega arith
+
+word_of_between : Not (6 ≡ phase_word Between)
+word_of_between e = omega arith
+
+-- From<u64> for windows::Phase: past the last the table was not checked yet; 0 as a record's
+phase_past : Not (Fresh ≡ phase_in 9)
+unfolding phase_in
+phase_past e = let z : ◌≡◌ {A = ℕ} 0 1 = cc in omega arith
+
+phase_zero : Not (Node ≡ phase_in 0)
+unfolding phase_in
+phase_zero e = let z : ◌≡◌ {A = ℕ} 0 1 = cc in omega arith
 
 -- windows::fresh: at the second byte; done
 fresh_on : Not (1 ≡ fresh_state.cursor.at)

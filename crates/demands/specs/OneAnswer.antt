@@ -18,6 +18,7 @@ use Rattle.lists.proofs.byte_at.Reads as lists-byte-at
 use Rattle.lists.proofs.less.Reads as lists-less
 use Rattle.lists.proofs.least.Reads as lists-least
 use Rattle.lists.proofs.put.Reads as lists-put
+use Rattle.classes.proofs.ClassFromU8.from.Reads as classes-class-from-u8
 use Rattle.classes.proofs.class_of.Reads as classes-class-of
 use Rattle.classes.proofs.class_in_loop.Reads as classes-class-in-loop
 use Rattle.classes.proofs.is_blank.Reads as classes-is-blank
@@ -61,6 +62,7 @@ use Rattle.records.proofs.kind_at.Reads as records-kind-at
 use Rattle.records.proofs.head_at.Reads as records-head-at
 use Rattle.records.proofs.put_head.Reads as records-put-head
 use Rattle.records.proofs.put.Reads as records-put
+use Rattle.table.proofs.KindTryFromUsize.try_from.Reads as table-kind-try-from-usize
 use Rattle.table.proofs.record_at.Reads as table-record-at
 use Rattle.table.proofs.is_symbol.Reads as table-is-symbol
 use Rattle.table.proofs.step_at.Reads as table-step-at
@@ -76,6 +78,8 @@ use Rattle.printer.proofs.cost.break_column.Reads as printer-cost-break-column
 use Rattle.printer.proofs.cost.fits_in.Reads as printer-cost-fits-in
 use Rattle.printer.proofs.cost.fits.Reads as printer-cost-fits
 use Rattle.printer.proofs.print.Reads as printer-print
+use Rattle.windows.proofs.U64FromPhase.from.Reads as windows-u64-from-phase
+use Rattle.windows.proofs.PhaseFromU64.from.Reads as windows-phase-from-u64
 use Rattle.windows.proofs.fresh.Reads as windows-fresh
 use Rattle.windows.proofs.fill.Reads as windows-fill
 use Rattle.windows.proofs.fill_in.Reads as windows-fill-in
@@ -140,13 +144,14 @@ OutFits o = AnswerFits o.answer
 abbrev pub FedFits : Fed → Type 0
 FedFits f = OutFits f.out
 
--- a field a public function that is no conversion, for those have an equation as their law; the doors for C are in OneAnswerDoors, settings in OneAnswerSettings
+-- a field a public function, conversions too; the doors for C are in OneAnswerDoors, settings in OneAnswerSettings
 pub record OneAnswer : Type 0 where
   pub refusals_fault_at : One refusals-fault-at.Post
   pub lists_byte_at : One lists-byte-at.Post
   pub lists_less : One lists-less.Post
   pub lists_least : One lists-least.Post
   pub lists_put : Both lists-put.Post (λ κs s. s.1.0.now)
+  pub classes_class_from_u8 : One classes-class-from-u8.Post
   pub classes_class_of : One classes-class-of.Post
   pub classes_class_in_loop : One classes-class-in-loop.Post
   pub classes_is_blank : One classes-is-blank.Post
@@ -190,6 +195,7 @@ pub record OneAnswer : Type 0 where
   pub records_head_at : One records-head-at.Post
   pub records_put_head : Left records-put-head.Post (λ κs s. s.1.1.0.now)
   pub records_put : Left records-put.Post (λ κs s. s.1.1.0.now)
+  pub table_kind_try_from_usize : One table-kind-try-from-usize.Post
   pub table_record_at : One table-record-at.Post
   pub table_is_symbol : One table-is-symbol.Post
   pub table_step_at : One table-step-at.Post
@@ -205,6 +211,8 @@ pub record OneAnswer : Type 0 where
   pub printer_cost_fits_in : One printer-cost-fits-in.Post
   pub printer_cost_fits : One printer-cost-fits.Post
   pub printer_print : Both printer-print.Post (λ κs s. s.1.1.0.now)
+  pub windows_u64_from_phase : One windows-u64-from-phase.Post
+  pub windows_phase_from_u64 : One windows-phase-from-u64.Post
   pub windows_fresh : One windows-fresh.Post
   pub windows_fill : Both windows-fill.Post (λ κs s. s.1.1.1.0.now)
   pub windows_fill_in : BothTwo windows-fill-in.Post (λ κs s. s.1.1.1.0.now) (λ κs s. s.1.1.1.1.0.now)

@@ -1,5 +1,6 @@
 -- How little the promises of settings leave open: of each public function, two results (and two lent memories) that meet its own contract are equal: THEOREM one_answer_settings.
 use Rattle.std.specs.Prelude.{◌≡◌}
+use Rattle.settings.proofs.kinds.KindTryFromUsize.try_from.Reads as settings-kind-try-from-usize
 use Rattle.settings.proofs.edition.Reads as settings-edition
 use Rattle.settings.proofs.width.Reads as settings-width
 use Rattle.settings.proofs.style.Reads as settings-style
@@ -14,6 +15,7 @@ use Rattle.tulbazhik_settings.proofs.tulbazhik_write_style.Reads as tulbazhik-wr
 use Rattle.demands.specs.OneAnswer.{One, Left, LeftTwo, Both}
 
 pub record OneAnswerSettings : Type 0 where
+  pub settings_kind_try_from_usize : One settings-kind-try-from-usize.Post
   pub settings_edition : One settings-edition.Post
   pub settings_width : One settings-width.Post
   pub settings_style : One settings-style.Post

@@ -1,12 +1,14 @@
 -- What each public function promises, in the words of the definitions: its own contract (`Post`), as the prover reads it off the source, is this. What is refuted in
 -- `Refuted`, `RefutedCalls` and `RefutedDoors` is refuted of these; settings have `PromisesSettings`. The arguments are `a`, in their order, the result is `x`, and `s` is what is lent as it is at the end.
-use Rattle.std.specs.Prelude.{◌+◌, ◌*◌, ◌-◌, ◌≤◌, ◌≡◌, length, get_or, drop, pos}
+use Rattle.std.specs.Prelude.{◌+◌, ◌*◌, ◌-◌, ◌≤◌, ◌≡◌, Some, length, get_or, drop, pos}
+use Rattle.std.specs.Fmt.{DisplaysOnOk}
 use Rattle.std.specs.Int.{w64}
 use Rattle.std.proofs.Common.{of_z}
 use Rattle.std.specs.Int.Signed.{lt_z}
-use Rattle.refusals.specs.Numbers.{depth_limit, fault_at}
+use Rattle.refusals.specs.Numbers.{depth_limit, fault_at, refusal_text}
 use Rattle.lists.specs.Over.{fitted}
 use Rattle.classes.specs.Classes.{class_of, blank, line_end, semicolon, lparen, rparen, is_at_sign, symbol_first, symbol_other, high, digit_of, literal_byte}
+use Rattle.classes.specs.Numbers.{named}
 use Rattle.classes.specs.Runs.{symbol_run, line_run}
 use Rattle.wide.specs.Value.{val, value, grown, integer_of, signed_of}
 use Rattle.wide.specs.Text.{integer_text}
@@ -19,6 +21,7 @@ use Rattle.lexer.specs.Gaps.{gap_end}
 use Rattle.feeder.specs.Feeding.{fresh_state, feed_of, close_of, fed_of, reply_of}
 use Rattle.records.specs.Records.{head_of, head_at, record_of}
 use Rattle.table.specs.Trees.{is_symbol}
+use Rattle.table.specs.Kinds.{kind_named}
 use Rattle.table.specs.Records.{record_at}
 use Rattle.table.specs.Decoding.{step_at, tree_at, table_of, judged, verdict_of}
 use Rattle.table.specs.Past.{past_symbol, past_of}
@@ -27,7 +30,7 @@ use Rattle.table.specs.Walking.{first_of, own_wrong, Walks}
 use Rattle.printer.specs.Layout.{break_column, fits_in}
 use Rattle.printer.specs.Fitting.{fits_at}
 use Rattle.printer.specs.Printing.{print_of, printing as printing_of, printed_into}
-use Rattle.windows.specs.Machine.{state, fresh_state as fresh_window}
+use Rattle.windows.specs.Machine.{state, fresh_state as fresh_window, phase_word, phase_in}
 use Rattle.windows.specs.Filling.{fill_of, call_of, call_at}
 use Rattle.reader.specs.Reading.{read_of, reading as reading_of, read_into}
 use Rattle.words.specs.Words.{token_words, refused_words, done_words, text_words, answer_words, reply_words, fed_words, length_words}
@@ -35,10 +38,12 @@ use Rattle.tulbazhik_trees.specs.Texts.{print_words}
 use Rattle.tulbazhik_feed.specs.States.{pack_of, unpack_of, state_words}
 use Rattle.tulbazhik_windows.specs.States.{unpack_of as unpack_window, call_words, state_words as window_words}
 use Rattle.refusals.proofs.Fault.at.Reads as refusals-fault-at
+use Rattle.refusals.proofs.RefusalDisplay.fmt.Reads as refusals-refusal-display
 use Rattle.lists.proofs.byte_at.Reads as lists-byte-at
 use Rattle.lists.proofs.less.Reads as lists-less
 use Rattle.lists.proofs.least.Reads as lists-least
 use Rattle.lists.proofs.put.Reads as lists-put
+use Rattle.classes.proofs.ClassFromU8.from.Reads as classes-class-from-u8
 use Rattle.classes.proofs.class_of.Reads as classes-class-of
 use Rattle.classes.proofs.class_in_loop.Reads as classes-class-in-loop
 use Rattle.classes.proofs.is_blank.Reads as classes-is-blank
@@ -82,6 +87,7 @@ use Rattle.records.proofs.kind_at.Reads as records-kind-at
 use Rattle.records.proofs.head_at.Reads as records-head-at
 use Rattle.records.proofs.put_head.Reads as records-put-head
 use Rattle.records.proofs.put.Reads as records-put
+use Rattle.table.proofs.KindTryFromUsize.try_from.Reads as table-kind-try-from-usize
 use Rattle.table.proofs.record_at.Reads as table-record-at
 use Rattle.table.proofs.is_symbol.Reads as table-is-symbol
 use Rattle.table.proofs.step_at.Reads as table-step-at
@@ -97,6 +103,8 @@ use Rattle.printer.proofs.cost.break_column.Reads as printer-cost-break-column
 use Rattle.printer.proofs.cost.fits_in.Reads as printer-cost-fits-in
 use Rattle.printer.proofs.cost.fits.Reads as printer-cost-fits
 use Rattle.printer.proofs.print.Reads as printer-print
+use Rattle.windows.proofs.U64FromPhase.from.Reads as windows-u64-from-phase
+use Rattle.windows.proofs.PhaseFromU64.from.Reads as windows-phase-from-u64
 use Rattle.windows.proofs.fresh.Reads as windows-fresh
 use Rattle.windows.proofs.fill.Reads as windows-fill
 use Rattle.windows.proofs.fill_in.Reads as windows-fill-in
@@ -117,12 +125,18 @@ use Rattle.tulbazhik_trees.proofs.tulbazhik_read.Reads as tulbazhik-trees-tulbaz
 use Rattle.tulbazhik_trees.proofs.tulbazhik_print.Reads as tulbazhik-trees-tulbazhik-print
 use Rattle.tulbazhik_windows.proofs.tulbazhik_fill.Reads as tulbazhik-windows-tulbazhik-fill
 
+-- what is printed of a refusal, through any writer `w`; of options such as a width nothing is said. It speaks of every type of writers, and so it is no field of `Promises`
+abbrev pub PromisesPrinted : Type 2
+PromisesPrinted = (W : _) (l : _) (w : _) (d : _) (κs : _) (a : _) (x : _) (s : _)
+    → refusals-refusal-display.Post W l w d κs a x s ≡ (DisplaysOnOk w.write_str_gives a.1.0.now x (Some (refusal_text a.0.now)) s.1.0.now × Unit {0})
+
 pub record Promises : Type 1 where
   pub refusals_fault_at : (κs : _) (a : _) (x : _) (s : _) → refusals-fault-at.Post κs a x s ≡ (x ≡ fault_at a.0 a.1.0)
   pub lists_byte_at : (κs : _) (a : _) (x : _) (s : _) → lists-byte-at.Post κs a x s ≡ (x ≡ get_or a.0.now a.1.0 0)
   pub lists_less : (κs : _) (a : _) (x : _) (s : _) → lists-less.Post κs a x s ≡ (x ≡ a.0 - a.1.0)
   pub lists_least : (κs : _) (a : _) (x : _) (s : _) → lists-least.Post κs a x s ≡ ((x ≤ a.1.0) × (a.0 ≤ a.1.0 → x ≡ a.0) × (a.1.0 ≤ a.0 → x ≡ a.1.0))
   pub lists_put : (κs : _) (a : _) (x : _) (s : _) → lists-put.Post κs a x s ≡ ((x ≡ length a.0.now) × (s.1.0.now ≡ fitted a.0.now a.1.0.now))
+  pub classes_class_from_u8 : (κs : _) (a : _) (x : _) (s : _) → classes-class-from-u8.Post κs a x s ≡ (x ≡ named a.0)
   pub classes_class_of : (κs : _) (a : _) (x : _) (s : _) → classes-class-of.Post κs a x s ≡ (x ≡ class_of a.0)
   pub classes_class_in_loop : (κs : _) (a : _) (x : _) (s : _) → classes-class-in-loop.Post κs a x s ≡ (x ≡ class_of a.0)
   pub classes_is_blank : (κs : _) (a : _) (x : _) (s : _) → classes-is-blank.Post κs a x s ≡ (x ≡ blank (class_of a.0))
@@ -166,6 +180,7 @@ pub record Promises : Type 1 where
   pub records_head_at : (κs : _) (a : _) (x : _) (s : _) → records-head-at.Post κs a x s ≡ (x ≡ head_at a.0.now a.1.0)
   pub records_put_head : (κs : _) (a : _) (x : _) (s : _) → records-put-head.Post κs a x s ≡ (s.1.1.0.now ≡ fitted (head_of a.0 a.1.0) a.1.1.0.now)
   pub records_put : (κs : _) (a : _) (x : _) (s : _) → records-put.Post κs a x s ≡ (s.1.1.0.now ≡ fitted (record_of a.0 a.1.0.now) a.1.1.0.now)
+  pub table_kind_try_from_usize : (κs : _) (a : _) (x : _) (s : _) → table-kind-try-from-usize.Post κs a x s ≡ (x ≡ kind_named a.0)
   pub table_record_at : (κs : _) (a : _) (x : _) (s : _) → table-record-at.Post κs a x s ≡ (x ≡ record_at a.0.now a.1.0)
   pub table_is_symbol : (κs : _) (a : _) (x : _) (s : _) → table-is-symbol.Post κs a x s ≡ (x ≡ is_symbol a.0.now)
   pub table_step_at : (κs : _) (a : _) (x : _) (s : _) → table-step-at.Post κs a x s ≡ (x ≡ step_at a.0.now a.1.0 a.1.1.0)
@@ -181,6 +196,8 @@ pub record Promises : Type 1 where
   pub printer_cost_fits_in : (κs : _) (a : _) (x : _) (s : _) → printer-cost-fits-in.Post κs a x s ≡ (x ≡ fits_in a.0 a.1.0 a.1.1.0)
   pub printer_cost_fits : (κs : _) (a : _) (x : _) (s : _) → printer-cost-fits.Post κs a x s ≡ (x ≡ fits_at a.0.now a.1.0 a.1.1.0 a.1.1.1.0)
   pub printer_print : (κs : _) (a : _) (x : _) (s : _) → printer-print.Post κs a x s ≡ ((print_of x ≡ printing_of a.0.now a.1.0 (length a.1.1.0.now)) × (s.1.1.0.now ≡ printed_into a.0.now a.1.0 a.1.1.0.now))
+  pub windows_u64_from_phase : (κs : _) (a : _) (x : _) (s : _) → windows-u64-from-phase.Post κs a x s ≡ (x ≡ phase_word a.0)
+  pub windows_phase_from_u64 : (κs : _) (a : _) (x : _) (s : _) → windows-phase-from-u64.Post κs a x s ≡ (x ≡ phase_in a.0)
   pub windows_fresh : (κs : _) (a : _) (x : _) (s : _) → windows-fresh.Post κs a x s ≡ (x ≡ fresh_window)
   pub windows_fill : (κs : _) (a : _) (x : _) (s : _) → windows-fill.Post κs a x s ≡ (call_of x s.1.1.1.0.now ≡ fill_of a.0.now a.1.0 a.1.1.0 a.1.1.1.0.now)
   pub windows_fill_in : (κs : _) (a : _) (x : _) (s : _) → windows-fill-in.Post κs a x s ≡ (call_at x s.1.1.1.0.now s.1.1.1.1.0.now ≡ fill_of a.0.now a.1.0 (state a.1.1.0 a.1.1.1.0.now) a.1.1.1.1.0.now)

@@ -1,9 +1,11 @@
 -- What each public function of settings and of its door for C promises, in the words of the definitions, as in `Promises`. What is refuted in `RefutedSettings` is refuted of these.
 use Rattle.std.specs.Prelude.{◌≡◌, length}
+use Rattle.settings.specs.Kinds.{kind_of}
 use Rattle.settings.specs.LookUps.{edition_in, width_in, style_in, style_name_in, part_at, number_of, part_of}
 use Rattle.settings.specs.Writing.{copy_of, sized, laid, width_setting, style_setting, written_of}
 use Rattle.words.specs.Words.{length_words}
 use Rattle.tulbazhik_settings.specs.Sides.{number_words, style_words}
+use Rattle.settings.proofs.kinds.KindTryFromUsize.try_from.Reads as settings-kind-try-from-usize
 use Rattle.settings.proofs.edition.Reads as settings-edition
 use Rattle.settings.proofs.width.Reads as settings-width
 use Rattle.settings.proofs.style.Reads as settings-style
@@ -17,6 +19,7 @@ use Rattle.tulbazhik_settings.proofs.tulbazhik_write_width.Reads as tulbazhik-wr
 use Rattle.tulbazhik_settings.proofs.tulbazhik_write_style.Reads as tulbazhik-write-style
 
 pub record PromisesSettings : Type 1 where
+  pub settings_kind_try_from_usize : (κs : _) (a : _) (x : _) (s : _) → settings-kind-try-from-usize.Post κs a x s ≡ (x ≡ kind_of a.0)
   pub settings_edition : (κs : _) (a : _) (x : _) (s : _) → settings-edition.Post κs a x s ≡ (number_of x ≡ edition_in a.0.now a.1.0.now)
   pub settings_width : (κs : _) (a : _) (x : _) (s : _) → settings-width.Post κs a x s ≡ (number_of x ≡ width_in a.0.now a.1.0.now)
   pub settings_style : (κs : _) (a : _) (x : _) (s : _) → settings-style.Post κs a x s ≡ (part_of x ≡ style_in a.0.now a.1.0.now)

@@ -1,5 +1,5 @@
 -- The numbers of document 01, 'Numbers given instead of an answer', and of document 02, and the limits of 'What is ported and what is added', by name.
-use Rattle.std.specs.Prelude.{ℕ}
+use Rattle.std.specs.Prelude.{ℕ, List, ◌++◌, codes, decimal}
 use Rattle.refusals.specs.declared.Fault.{Fault}
 use Rattle.refusals.specs.declared.Fault.TheVariants as fault
 use Rattle.refusals.specs.declared.Refusal.{Refusal}
@@ -146,3 +146,7 @@ number_of fault.BadStyleName = bad_style_name
 
 abbrev pub fault_at : Fault → ℕ → Refusal
 fault_at f a = record { number = number_of f; place = a }
+
+-- what is printed of a refusal: its number and its place in decimal
+abbrev pub refusal_text : Refusal → List ℕ
+refusal_text r = codes "refusal " ++ (decimal r.number ++ (codes " at " ++ decimal r.place))

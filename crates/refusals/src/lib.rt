@@ -1,8 +1,8 @@
 // The numbers that documents 01 and 02 give instead of an answer, and the limits, by name.
 #![tactic(auto)]
 
-ghost use Rattle.std.specs.Prelude.{◌≡◌};
-ghost use Rattle.refusals.specs.Numbers.{fault_at};
+ghost use Rattle.std.specs.Prelude.{◌≡◌, Some};
+ghost use Rattle.refusals.specs.Numbers.{fault_at, refusal_text};
 
 use std::error::Error;
 use std::fmt;
@@ -58,6 +58,8 @@ pub struct Refusal {
 }
 
 impl fmt::Display for Refusal {
+    ghost output = { λ r. Some (refusal_text r) };
+
     fn fmt<W: fmt::Write>(&self, f: &mut fmt::Formatter<W>) -> fmt::Result {
         write!(f, "refusal {} at {}", self.number, self.place)
     }
