@@ -3,7 +3,9 @@ use mathlib.Core.Path.{◌≡◌, refl, sym}
 use Prim.Native.Nat.{ℕ, suc, ◌+◌, ◌*◌, ◌-◌, ◌≤◌}
 use native.Mathlib.Omega.{arith}
 use lib.ListN.{length, length-drop}
+use borrow.Author.Rules.{rules}
 use borrow.Rule.Slice.PartMut.{same_len_mid}
+use Rattle.std.specs.Prelude.{Ok}
 use Rattle.std.proofs.lemmas.Result.{err_from_is_err_and}
 use Rattle.refusals.specs.Numbers.{source_limit, table_limit}
 use Rattle.refusals.specs.Result.{ok}
@@ -120,7 +122,7 @@ read_items-overflow_add-n-in-LParen t c =
     let h = past_small c.args.src.now _ (record { place = c.loop-token.at; gives = sym e }) in
     omega (arith, number_top c.loop-token.invariant)
 
--- a name or a tree was read
+-- a name or a tree was read; a list is read off the call itself, so that code may stand between it and its `?`
 turn : (t : ℕ) (c : read_items-Joined-token t)
     → let l = c.loop-token in let m = c.match-token in
     Turn c.args.src.now c.args.depth (read_items (read_tree c.args.src.now c.args.depth) (suc (length c.args.src.now)) (next_token c.args.src.now c.args.at)) (next_token c.args.src.now c.args.at)
@@ -146,7 +148,8 @@ turn t c =
       | read_items-in-LParen+in_ok-list-in-LParen w ↦
           let e = rw (c.in-Token.is, w.in-LParen.is) at c.in_ok-next_token.ensures in
           let r = w.min-rest.result in
-          let h = rw (rest_behind l.room l.size r w.min-rest.ensures) at w.in_ok-list-in-LParen.ensures in
+          let g : w.read_tree.result ≡ Ok w.in_ok-list-in-LParen.list = search rules in
+          let h = rw (rest_behind l.room l.size r w.min-rest.ensures, g) at w.read_tree.ensures in
           rw (w.one-is, w.room-is, w.due-is, w.n-is)
           (tree_turn l.invariant _ e _ _ _ h (lent_behind l.room _ l.size r w.min-rest.ensures) (same_len_mid r (length l.room - r) l.room w.read_tree.new.room w.read_tree.auto.room))
     ]

@@ -10,5 +10,5 @@ returns c =
     let n = c.args.n in
     let low = c.overflowing_sub-lo in
     let high : ℕ = (0 + (2 ^ 64 - n.hi)) % 2 ^ 64 in
-    negated_law n.hi n.lo ((high + (2 ^ 64 - c.from.result)) % 2 ^ 64) low.result.0 high c.from.result (omega arith) (omega arith) (omega arith) (omega arith) (omega arith)
+    negated_law n.hi n.lo _ low.result.0 high c.from.result (omega arith) (omega arith) (omega arith) (omega arith) (omega arith)
     low.ensures.value (omega arith) (omega arith) (borrowed n.lo c.from.result low.result.1 low.ensures.overflow c.from.ensures)
