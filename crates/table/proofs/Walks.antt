@@ -21,7 +21,7 @@ use Rattle.wide.specs.Text.{integer_text}
 use Rattle.records.specs.Records.{head_len, payload}
 use Rattle.records.proofs.Heads.{part_lt, payload_size}
 use Rattle.table.specs.Kinds.{integer_len, list_len}
-use Rattle.table.specs.Trees.{Tree, Trees, symbol, list, none, more, count, is_symbol, cost, costs, records, records_of}
+use Rattle.table.specs.Trees.{Tree, Trees, symbol, binding, list, none, more, count, is_symbol, cost, costs, records, records_of}
 use Rattle.table.specs.Records.{Record, Symbol, Integer, Binding, ListOf, record_at}
 use Rattle.table.specs.Costs.{costed, costed_all}
 use Rattle.table.specs.Decoding.{Found, found, and_then, items_at, step_at, of_step, tree_at, if_costed, table_of}
@@ -167,25 +167,31 @@ module _ (t : List ℕ) (d at : ℕ) (x : Record) (e : Ok x ≡ step_at t at (lt
   at_integer n z r e' en ez k =
       to Integer (Ok r) e' (rw (k, en, integer_value t at z (step_in t d at x Integer e e').0 ez) (refl, refl, refl, refl))
 
-  -- the tree below a binding was walked
-  pub binding_stop : (len : ℕ) (r : Refusal) → x ≡ Binding len → Walks t (at + len) (tree_at t (d - 1) (at + len)) (Err r) → Walks t at (tree_at t d at) (Err r)
-  binding_stop len r e' u =
-      let y = tree_at t (d - 1) (at + len) in to (Binding len) (Err r) e' (rw (walked_stop t (at + len) y r u) (refl, refl, stop_number t (at + len) y r u))
+  pub at_binding : (len : ℕ) (r : CodeResult Walked Refusal) → x ≡ Binding len
+      → Walks t at (and_then (tree_at t (d - 1) (at + len)) (λ x q. ok (found (binding (payload t at len) x) q))) r → Walks t at (tree_at t d at) r
+  at_binding len r e' k = to (Binding len) r e' k
 
-  pub binding_good : (len : ℕ) (m r : Walked) → x ≡ Binding len → Walks t (at + len) (tree_at t (d - 1) (at + len)) (Ok m)
-      → (r.place ≡ m.place) × (r.cost ≡ len - head_len + 3 + m.cost) × (r.empty ≡ m.empty) × (r.wrong ≡ m.wrong) → Walks t at (tree_at t d at) (Ok r)
+-- ---- the tree below the binding at `at` was walked
+
+module _ (t : List ℕ) (d at len : ℕ) where
+  pub binding_stop : (r : Refusal) → Walks t (at + len) (tree_at t d (at + len)) (Err r)
+      → Walks t at (and_then (tree_at t d (at + len)) (λ x q. ok (found (binding (payload t at len) x) q))) (Err r)
+  binding_stop r u = let y = tree_at t d (at + len) in rw (walked_stop t (at + len) y r u) (refl, refl, stop_number t (at + len) y r u)
+
+  pub binding_good : (m r : Walked) → head_len ≤ len → len ≤ length t - at → Walks t (at + len) (tree_at t d (at + len)) (Ok m)
+      → (r.place ≡ m.place) × (r.cost ≡ len - head_len + 3 + m.cost) × (r.empty ≡ m.empty) × (r.wrong ≡ m.wrong)
+      → Walks t at (and_then (tree_at t d (at + len)) (λ x q. ok (found (binding (payload t at len) x) q))) (Ok r)
   unfolding cost empties costed
-  binding_good len m r e' u k =
-      let y = walked_tree t (d - 1) (at + len) m u in
-      let a = step_in t d at x (Binding len) e e' in
-      let z : length (payload t at len) ≡ len - head_len = payload_is t at len a.0 a.1 in
-      let v : at + len ≡ at + (length (payload t at len) + head_len) = omega (arith, z, a.0) in
-      to (Binding len) (Ok r) e' (rw y.0.is (
+  binding_good m r h6 hl u k =
+      let y = walked_tree t d (at + len) m u in
+      let z : length (payload t at len) ≡ len - head_len = payload_is t at len h6 hl in
+      let v : at + len ≡ at + (length (payload t at len) + head_len) = omega (arith, z, h6) in
+      rw y.0.is (
         k.0,
         k.1 ∙ omega (arith, y.0.costs_it, z),
         k.2 ∙ y.1,
         k.3 ∙ y.0.wrong_it ∙ ap (λ (j : ℕ). wrong_in (costed t y.0.tree j)) v,
-      ))
+      )
 
 -- the count of a list fits 4 bytes
 pub list_few : (t : List ℕ) (d at n : ℕ) (x : Record) → Bytes t → Ok x ≡ step_at t at (ltb 0 d) → x ≡ ListOf n → n < 4294967296
@@ -327,6 +333,21 @@ module _ (t : List ℕ) (at n d p i k e : ℕ) (w : Option ℕ) (g : Counted t a
       own_empty : is_empty (g.walk.gone.pre none) ≡ from_bool (eqb n 0)
       own_empty = empty_is (g.walk.gone.pre none) ∙ ap (λ (j : ℕ). from_bool (eqb j 0)) (all_count t at n d p i k w g.walk le)
 
+-- a list of no items, by itself and as the item at p
+pub none_walked : (t : List ℕ) (at n d : ℕ) (r : Walked) → at + list_len ≤ length t → n ≡ 0
+    → (r.place ≡ at + list_len) × (r.cost ≡ 1) × (r.empty ≡ 1) × (r.wrong ≡ own_wrong t at 1)
+    → Walks t at (and_then (items_at (tree_at t d) n (at + list_len)) (λ xs q. ok (found (list xs) q))) (Ok r)
+none_walked t at n d r h e k =
+    let o = own_wrong t at 1 in
+    rw e (counted_end t at 0 d (at + list_len) 0 1 1 None (counted_begin t at 0 d 1 h refl) o r (omega arith) refl (k.0, k.1, k.2, k.3 ∙ sym (first_none o)))
+
+module _ (t : List ℕ) (at n d p i k e : ℕ) (w : Option ℕ) (g : Counted t at n d p i k e w) where
+  pub counted_empty : (m p' k' e' : ℕ) (w' o : Option ℕ) → i < n → p + list_len ≤ length t → Ok (ListOf m) ≡ step_at t p (ltb 0 d) → m ≡ 0 → o ≡ own_wrong t p 1
+      → p' ≡ p + list_len → k' ≡ k + 1 → e' ≡ e + 1 → w' ≡ first_of w o → Counted t at n d p' (i + 1) k' e' w'
+  counted_empty m p' k' e' w' o lt h f z eo ep ek ee ew =
+      let r : Walked = record { place = p + list_len; cost = 1; empty = 1; wrong = o } in
+      counted_tree t at n d p i k e w g r p' k' e' w' lt (at_list t d p (ListOf m) f m (Ok r) refl (none_walked t p m (d - 1) r h z (refl, refl, refl, eo))) ep ek ee ew
+
 -- ---- trees up to the table's end: those before p are done, and w is the place of their first wrong cost
 
 pub record Checks (t : List ℕ) (p : ℕ) (w : Option ℕ) : Type 0 where
@@ -390,7 +411,7 @@ module _ (t : List ℕ) (p : ℕ) (w : Option ℕ) (g : Checks t p w) where
 
 -- ---- what the goals at a tree's record need
 
-pub ruleset at_record = (symbol_room, integer_room, binding_room, list_room, at_fault, at_symbol, at_integer, binding_stop, binding_good, at_list, list_few)
+pub ruleset at_record = (symbol_room, integer_room, binding_room, list_room, at_fault, at_symbol, at_integer, at_binding, at_list, list_few)
 
 -- and at a table
 

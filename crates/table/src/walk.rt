@@ -1,8 +1,9 @@
 // One walk over a tree, whatever its bytes: where it ends, what it costs, and whether the costs that its lists store are right.
 ghost use Rattle.std.specs.Prelude.{◌≡◌, ◌+◌, ◌≤◌, ◌<◌, length, None};
 ghost use Rattle.refusals.specs.Result.{ok};
+ghost use Rattle.records.specs.Records.{head_len, payload};
 ghost use Rattle.table.specs.Kinds.{list_len};
-ghost use Rattle.table.specs.Trees.{list};
+ghost use Rattle.table.specs.Trees.{binding, list};
 ghost use Rattle.table.specs.Decoding.{tree_at, items_at, and_then, found};
 ghost use Rattle.table.specs.Walking.{first_of, own_wrong, Walks};
 
@@ -47,8 +48,9 @@ pub fn own_wrong(t: &[u8], at: usize, cost: usize) -> Option<usize>
     (crate::stored_cost(t, at) != cost).then_some(at)
 }
 
-// The tree at `at`, with `depth` lists and bindings still to be opened.
+// The tree at `at`, with `depth` lists and bindings still to be opened. In line, for what an atom comes to would go through memory otherwise.
 #[cycle(walk_list_walk_tree)]
+#[inline(always)]
 #[tactic(auto, using(crate::proofs::Walks::at_record))]
 pub fn walk_tree(t: &[u8], at: usize, depth: usize) -> Result<Walked, Refusal>
     ensures { Walks t.now at (tree_at t.now depth at) result }
@@ -60,16 +62,23 @@ pub fn walk_tree(t: &[u8], at: usize, depth: usize) -> Result<Walked, Refusal>
             at + crate::INTEGER_LEN,
             wide::text_len(wide::wide_at(t, at + HEAD)),
         )),
-        Ok(Record::Binding(len)) => {
-            let x = walk_tree(t, at + len, depth - 1)?;
-            let cost = len - HEAD + 3 + x.cost;
-            Ok(Walked { cost, ..x })
-        }
+        Ok(Record::Binding(len)) => walk_binding(t, at, len, depth - 1),
         Ok(Record::List(n)) => walk_list(t, at, n, depth - 1),
     }
 }
 
-// The list of n items at `at`. A symbol in it takes no call of its own, and a list is not judged twice.
+// The binding whose record of `len` bytes is at `at`.
+#[cycle(walk_list_walk_tree)]
+fn walk_binding(t: &[u8], at: usize, len: usize, depth: usize) -> Result<Walked, Refusal>
+    requires { (head_len ≤ len) × (at + len ≤ length t.now) }
+    ensures { Walks t.now at (and_then (tree_at t.now depth (at + len)) (λ x q. ok (found (binding (payload t.now at len) x) q))) result }
+{
+    let x = walk_tree(t, at + len, depth)?;
+    let cost = len - HEAD + 3 + x.cost;
+    Ok(Walked { cost, ..x })
+}
+
+// The list of n items at `at`. A symbol or an empty list in it takes no call of its own, and a list is not judged twice.
 #[cycle(walk_list_walk_tree)]
 #[tactic(auto, using(crate::proofs::Reading::symbol_fits, crate::proofs::Walks::counted_begin))]
 fn walk_list(t: &[u8], at: usize, n: usize, depth: usize) -> Result<Walked, Refusal>
@@ -89,7 +98,16 @@ fn walk_list(t: &[u8], at: usize, n: usize, depth: usize) -> Result<Walked, Refu
             }
             // Told here, for `walk_tree` would look at its bytes once more.
             Ok(Record::Symbol(_)) => return Err(Fault::BadSymbol.at(p)),
-            Ok(Record::List(m)) if 0 < depth => walk_list(t, p, m, depth - 1)?,
+            Ok(Record::List(m)) if 0 < depth => {
+                if m == 0 {
+                    cost += 1;
+                    empty += 1;
+                    wrong = earlier(wrong, own_wrong(t, p, 1));
+                    p += crate::LIST_LEN;
+                    continue;
+                }
+                walk_list(t, p, m, depth - 1)?
+            }
             _ => walk_tree(t, p, depth)?,
         };
         cost += x.cost;
